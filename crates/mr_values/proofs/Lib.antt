@@ -1,0 +1,11 @@
+pub mod Ring
+pub mod Division
+pub mod WidthLemmas
+pub mod Wrapping
+pub mod Zeros
+pub mod Polyphase
+pub mod Plain
+pub mod Noble
+pub mod TimingRows
+pub mod FilesByName
+pub mod HostSteps

@@ -1,0 +1,21 @@
+use Rattle.std.proofs.Common.{refl, ap, []}
+use Rattle.std.specs.Option.{option_map_or}
+use Rattle.mr_values.specs.NamedFiles.{name_at}
+use Rattle.mr_values.proofs.FilesByName.{bytes_of-named}
+use Rattle.mr_values.proofs.HostSteps.{is_struck, reads_piece}
+use Rattle.mr_values.proofs.memory_host.MemoryHostHost.next.Goals as goal
+
+pub returns-then-take_turn-clause-told : goal.returns-then-take_turn-clause-told
+returns-then-take_turn-clause-told c = λ told.
+    record { bytes = tt; place = tt; end = tt; struck = is_struck _ _ (c.take_turn.ensures.hit c.if-take_turn.true); input = tt; files = refl; output = refl }
+
+pub returns-clause-told : goal.returns-clause-told
+returns-clause-told c = λ told.
+    let within = c.args.self.now.input_within _ c.unwrap-reading.ensures in
+    let bytes = bytes_of-named _ _ _ within c.args.self.now.distinct c.index.ensures in
+    reads_piece _ _ (name_at c.args.self.now.files.items c.unwrap-reading.result.file) c.index.result.now.bytes.items _ c.unwrap-reading.result.place c.piece_of-count.result bytes
+    (ap (λ i. option_map_or (λ reading. name_at c.args.self.now.files.items reading.file) i []) c.unwrap-reading.ensures) refl
+    (ap (λ i. option_map_or (λ reading. reading.place) i 0) c.unwrap-reading.ensures) refl
+    refl refl (c.take_turn.ensures.spared c.if-take_turn.false)
+    (rw c.as_slice-bytes.ensures.value at c.piece_of-count.ensures.copied)
+    (rw c.as_slice-bytes.ensures.value at c.piece_of-count.ensures.end)

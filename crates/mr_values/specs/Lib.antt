@@ -1,0 +1,9 @@
+pub mod Width
+pub mod Sequence
+pub mod Value
+pub mod Timing
+pub mod Faults
+pub mod Files
+pub mod Host
+pub mod NamedFiles
+pub mod MemoryHost

@@ -1,0 +1,20 @@
+//! The base of the filter compiler: numbers of a width, plans and their values, and the outside.
+#![tactic(auto)]
+
+mod host;
+mod memory;
+mod memory_host;
+mod named_file;
+mod plan;
+mod strikes;
+mod text;
+mod value;
+mod width;
+
+pub use host::{Failed, FaultCounts, Host, HostCall, OutFail};
+pub use memory::Memory;
+pub use memory_host::MemoryHost;
+pub use plan::{Element, Elements, Form, Mode, Plan, Taps};
+pub use text::Text;
+pub use value::value_at;
+pub use width::{fits, floor_divide, floor_modulo, floor_shift, least_width, power, wrap};
