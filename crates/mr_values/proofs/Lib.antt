@@ -6,6 +6,12 @@ pub mod Zeros
 pub mod Polyphase
 pub mod Plain
 pub mod Noble
+pub mod DigitCounts
+pub mod LeastWeight
+pub mod NonAdjacent
+pub mod DigitSteps
+pub mod DigitRows
+pub mod PhaseSums
 pub mod TimingRows
 pub mod FilesByName
 pub mod HostSteps

@@ -1,6 +1,7 @@
 pub mod Width
 pub mod Sequence
 pub mod Value
+pub mod Digit
 pub mod Timing
 pub mod Faults
 pub mod Files

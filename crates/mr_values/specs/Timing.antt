@@ -1,5 +1,5 @@
 -- The groups of a plan, and at which ticks their streams stand.
-use Rattle.std.specs.Prelude.{ℕ, zero, suc, ◌+◌, ◌-◌, ◌*◌, ◌/◌, ◌%◌, ◌^◌, ◌==◌, max, nat_le, if◌then◌else◌, List, [], ◌∷◌, length, take, Option, None, Some, unwrap_or, ℤ, pos, negsuc, ◌+ℤ◌, ◌*ℤ◌, neg_ℤ}
+use Rattle.std.specs.Prelude.{ℕ, zero, suc, ◌+◌, ◌-◌, ◌*◌, ◌/◌, ◌^◌, ◌==◌, max, nat_le, if◌then◌else◌, List, [], ◌∷◌, length, take, sum_by, Option, None, Some, unwrap_or, ℤ, pos, negsuc, ◌+ℤ◌, ◌*ℤ◌, neg_ℤ}
 use Rattle.mr_values.specs.declared.plan.Element.{Element}
 use Rattle.mr_values.specs.declared.plan.Element.TheVariants.{Up, Down, Filter, CicDown, CicUp, Round}
 use Rattle.mr_values.specs.declared.plan.Form.{Form}
@@ -7,6 +7,7 @@ use Rattle.mr_values.specs.declared.plan.Form.TheVariants.{Parallel, Symmetric, 
 use Rattle.mr_values.specs.declared.plan.Mode.{Mode}
 use Rattle.mr_values.specs.Value.{size, round_value}
 use Rattle.mr_values.specs.Sequence.{phase}
+use Rattle.mr_values.specs.Digit.{positive_count, negative_count, digit_count}
 
 -- ---- numbers
 
@@ -31,39 +32,15 @@ abbrev pub signed_bits : ℤ → ℕ
 signed_bits (pos n) = suc (bit_length_to 128 n)
 signed_bits (negsuc n) = suc (bit_length_to 128 n)
 
--- the digits 1 and the digits -1 of the non-adjacent form
-pub record Digits : Type 0 where
-  pub plus : ℕ
-  pub minus : ℕ
-
--- A digit is 0 where n is even, 1 where n leaves 1 modulo 4, and -1 where it leaves 3.
--- One recursive call: antt computes both sides of an `if`.
-abbrev pub without_digit : ℕ → ℕ
-without_digit n = if n % 4 == 3 then (n + 1) / 2 else n / 2
-
-abbrev pub with_digit : ℕ → Digits → Digits
-with_digit (suc zero) d = record { plus = suc d.plus; minus = d.minus }
-with_digit (suc (suc (suc zero))) d = record { plus = d.plus; minus = suc d.minus }
-with_digit _ d = d
-
-abbrev pub digits_to : ℕ → ℕ → Digits
-digits_to zero n = record { plus = 0; minus = 0 }
-digits_to (suc fuel) n = with_digit (n % 4) (digits_to fuel (without_digit n))
-
-abbrev pub digits : ℤ → Digits
-digits (pos n) = digits_to 65 n
-digits (negsuc n) = let d = digits_to 65 (suc n) in record { plus = d.minus; minus = d.plus }
-
+-- the terms of taps: the digits of their non-adjacent forms
 abbrev pub plus_terms : List ℤ → ℕ
-plus_terms [] = 0
-plus_terms (c ∷ cs) = (digits c).plus + plus_terms cs
+plus_terms taps = sum_by positive_count taps
 
 abbrev pub minus_terms : List ℤ → ℕ
-minus_terms [] = 0
-minus_terms (c ∷ cs) = (digits c).minus + minus_terms cs
+minus_terms taps = sum_by negative_count taps
 
 abbrev pub terms : List ℤ → ℕ
-terms cs = plus_terms cs + minus_terms cs
+terms taps = sum_by digit_count taps
 
 -- the greatest over the phases below r
 abbrev pub greatest_below : (List ℤ → ℕ) → ℕ → ℕ → List ℤ → ℕ

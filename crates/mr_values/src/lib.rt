@@ -1,6 +1,8 @@
 //! The base of the filter compiler: numbers of a width, plans and their values, and the outside.
 #![tactic(auto)]
 
+mod digit;
+mod digit_list;
 mod host;
 mod memory;
 mod memory_host;
@@ -11,6 +13,8 @@ mod text;
 mod value;
 mod width;
 
+pub use digit::{Digit, count_terms, digits, positive_digits, weight};
+pub use digit_list::Digits;
 pub use host::{Failed, FaultCounts, Host, HostCall, OutFail};
 pub use memory::Memory;
 pub use memory_host::MemoryHost;
