@@ -1,2 +1,11 @@
 pub mod Tree
 pub mod View
+pub mod Meaning
+pub mod Names
+pub mod Circuit
+pub mod Cycle
+pub mod Shown
+pub mod Uncut
+pub mod Counted
+pub mod Alike
+pub mod Laws

@@ -1,0 +1,7 @@
+pub mod Powers
+pub mod Views
+pub mod Members
+pub mod Parts
+pub mod Settling
+pub mod DependsOnReads
+pub mod OneSettling
