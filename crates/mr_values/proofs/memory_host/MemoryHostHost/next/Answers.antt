@@ -7,7 +7,15 @@ use Rattle.mr_values.proofs.memory_host.MemoryHostHost.next.Goals as goal
 
 pub returns-then-take_turn-clause-told : goal.returns-then-take_turn-clause-told
 returns-then-take_turn-clause-told c = λ told.
-    record { bytes = tt; place = tt; end = tt; struck = is_struck _ _ (c.take_turn.ensures.hit c.if-take_turn.true); input = tt; files = refl; output = refl }
+    record { bytes = tt; place = tt; end = tt; struck = is_struck _ _ (rw c.take_turn.ensures.struck at c.strike.ensures.risen); input = tt; files = refl; output = refl }
+
+pub returns-clause-count : goal.returns-clause-count
+returns-clause-count c =
+    let within = c.args.self.now.input_within _ c.unwrap-reading.ensures in
+    let bytes = bytes_of-named _ _ _ within c.args.self.now.distinct c.index.ensures in
+    let input = ap (λ i. option_map_or (λ reading. name_at c.args.self.now.files.items reading.file) i []) c.unwrap-reading.ensures in
+    let place = ap (λ i. option_map_or (λ reading. reading.place) i 0) c.unwrap-reading.ensures in
+    rw (input, place, bytes) (rw c.as_slice-bytes.ensures.value at c.piece_of-count.ensures.count)
 
 pub returns-clause-told : goal.returns-clause-told
 returns-clause-told c = λ told.
@@ -16,6 +24,6 @@ returns-clause-told c = λ told.
     reads_piece _ _ (name_at c.args.self.now.files.items c.unwrap-reading.result.file) c.index.result.now.bytes.items _ c.unwrap-reading.result.place c.piece_of-count.result bytes
     (ap (λ i. option_map_or (λ reading. name_at c.args.self.now.files.items reading.file) i []) c.unwrap-reading.ensures) refl
     (ap (λ i. option_map_or (λ reading. reading.place) i 0) c.unwrap-reading.ensures) refl
-    refl refl (c.take_turn.ensures.spared c.if-take_turn.false)
+    refl refl c.take_turn.ensures.struck
     (rw c.as_slice-bytes.ensures.value at c.piece_of-count.ensures.copied)
     (rw c.as_slice-bytes.ensures.value at c.piece_of-count.ensures.end)
