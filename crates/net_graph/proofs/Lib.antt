@@ -1,0 +1,10 @@
+pub mod Lists
+pub mod CellLemmas
+pub mod GroupLemmas
+pub mod CutLemmas
+pub mod NetLemmas
+pub mod FormedLemmas
+pub mod FreeLemmas
+pub mod RunLemmas
+pub mod ControlLemmas
+pub mod GrowLemmas

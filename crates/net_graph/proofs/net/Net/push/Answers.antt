@@ -1,0 +1,11 @@
+use Rattle.std.proofs.Common.{◌+◌, length, subst, sym}
+use Rattle.net_graph.specs.Cells.{NetView}
+use Rattle.net_graph.specs.WellFormed.{IsNode}
+use Rattle.net_graph.proofs.FormedLemmas.{IsWellFormed-push}
+use Rattle.net_graph.proofs.net.Net.push.Goals as goal
+
+-- the new node reads earlier nodes
+pub invariant_of-self-2 : goal.invariant_of-self-2
+invariant_of-self-2 c =
+    rw c.in_ok-push.ensures.items (IsWellFormed-push _ _ c.self.invariant
+    (subst (λ (n : NetView). IsNode n.cells (length n.cells) (length n.cells + 1) (record { group = n.group; name = c.args.name; width = c.args.width; item = c.args.item })) (sym c.self.view_is) c.requires))

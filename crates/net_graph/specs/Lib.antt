@@ -1,0 +1,7 @@
+pub mod Cells
+pub mod Name
+pub mod Cut
+pub mod Run
+pub mod WellFormed
+pub mod Grow
+pub mod Control
