@@ -5,3 +5,5 @@ pub mod Parts
 pub mod Settling
 pub mod DependsOnReads
 pub mod OneSettling
+pub mod BitNumbers
+pub mod Computes

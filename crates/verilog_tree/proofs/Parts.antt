@@ -25,10 +25,10 @@ most_of a b h = grind (arith, nat_tests)
 
 part_range : (width high low : ℕ) → IsTrue (nat_lt high width && (nat_le low high && is_width width)) → IsFitting (high - low + 1)
 part_range width high low h =
-    let first = and_parts _ _ h in
-    let second = and_parts _ _ first.1 in
-    let lt = below_of high width first.0 in
-    let range = range_of width second.1 in
+    let first = and_parts (nat_lt high width) (nat_le low high && is_width width) h in
+    let second = and_parts (nat_le low high) (is_width width) first.1 in
+    let lt : high < width = below_of high width first.0 in
+    let range : IsFitting width = range_of width second.1 in
     record { least = omega arith; most = omega arith }
 
 binary_range : (k : Bool) (a b : ℕ) → IsFitting a → IsFitting b → IsFitting (binary_length k a b)
