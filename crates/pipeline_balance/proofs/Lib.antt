@@ -1,0 +1,5 @@
+pub mod WrapLemmas
+pub mod NumberedLemmas
+pub mod TakenLemmas
+pub mod CounterLemmas
+pub mod WindowLemmas
