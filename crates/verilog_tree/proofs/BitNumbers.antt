@@ -1,5 +1,5 @@
 -- Bits that are extended, shifted to the right or selected, against the numbers that they stand for.
-use Rattle.std.proofs.Common.{◌≡◌, ℕ, zero, suc, ◌+◌, ◌-◌, ◌*◌, ◌/◌, ◌%◌, ◌^◌, ◌<◌, ◌≤◌, Bool, true, false, ◌&&◌, cond, ℤ, pos, negsuc, ◌+ℤ◌, ◌*ℤ◌, refl, sym, ◌∙◌, ap, arith, inl, inr}
+use Rattle.std.proofs.Common.{◌≡◌, ℕ, ◌+◌, ◌-◌, ◌*◌, ◌/◌, ◌%◌, ◌^◌, ◌<◌, ◌≤◌, Bool, true, false, cond, ℤ, pos, negsuc, ◌+ℤ◌, ◌*ℤ◌, refl, sym, ◌∙◌, ap, arith, inl, inr}
 use Rattle.std.specs.Prelude.{nat_lt, nat_le}
 use Rattle.std.proofs.lemmas.Int.{ints}
 use Rattle.std.proofs.lemmas.Bool.{cases_lt}
@@ -9,7 +9,7 @@ use Rattle.std.proofs.Math.Nat.{mod-eq_of_lt, mod-lt, div-add-mod', div-eq_of_lt
 use Rattle.mr_values.specs.Width.{FitsWidth, pattern, extended, floor_quotient, floor_remainder}
 use Rattle.mr_values.proofs.Ring.{+ℤ-*ℤ, *ℤ_assoc}
 use Rattle.mr_values.proofs.Division.{floor_split, floor_unique, pow_halves}
-use Rattle.mr_values.proofs.WidthLemmas.{fits_out, pattern-lt}
+use Rattle.mr_values.proofs.WidthLemmas.{fits_out}
 use Rattle.verilog_tree.specs.declared.tree.ShiftOp.TheVariants.{ArithRight}
 use Rattle.verilog_tree.specs.Meaning.{extension, shifted}
 
@@ -129,5 +129,5 @@ selected-pattern w high low x inside order =
     let whole : 2 ^ w ≡ 2 ^ low * rest = ap (λ (e : ℕ). 2 ^ e) (let is : w ≡ low + (bits + above) = omega arith in is) ∙ pow-add 2 low (bits + above) in
     let first = quotient_up_to x c p (2 ^ low) rest (pow_pos low) (pattern_whole w x ∙ ap (λ (e : ℕ). c *ℤ pos e +ℤ pos p) whole) in
     let second = quotient_up_to (floor_quotient x (2 ^ low)) c (p / 2 ^ low) (2 ^ bits) (2 ^ above) (pow_pos bits)
-        (first.0 ∙ ap (λ (e : ℕ). c *ℤ pos e +ℤ pos (p / 2 ^ low)) (pow-add 2 bits above)) in
+    (first.0 ∙ ap (λ (e : ℕ). c *ℤ pos e +ℤ pos (p / 2 ^ low)) (pow-add 2 bits above)) in
     sym second.1

@@ -1,13 +1,13 @@
 -- Expressions over signed signals compute whole numbers: from bit patterns to the numbers that they stand for.
-use Rattle.std.proofs.Common.{◌≡◌, ℕ, zero, suc, ◌+◌, ◌-◌, ◌*◌, ◌/◌, ◌%◌, ◌^◌, ◌<◌, ◌≤◌, max, Bool, true, false, ◌&&◌, cond, ℤ, pos, negsuc, ◌+ℤ◌, ◌-ℤ◌, ◌*ℤ◌, refl, sym, ◌∙◌, ap, arith}
+use Rattle.std.proofs.Common.{◌≡◌, ℕ, zero, suc, ◌+◌, ◌-◌, ◌*◌, ◌/◌, ◌%◌, ◌^◌, ◌<◌, ◌≤◌, max, Bool, true, false, ◌&&◌, ℤ, pos, negsuc, ◌+ℤ◌, ◌-ℤ◌, ◌*ℤ◌, refl, sym, ◌∙◌, ap, arith}
 use Rattle.std.specs.Prelude.{◌==◌}
-use Rattle.std.proofs.lemmas.Bool.{eqb-true, eqb-false, eq-eqb, ne_eqb}
+use Rattle.std.proofs.lemmas.Bool.{eqb-true, eqb-false}
 use Rattle.mr_values.specs.Width.{FitsWidth, pattern, extended, wrap, chosen, floor_quotient, floor_remainder}
 use Rattle.mr_values.proofs.WidthLemmas.{pattern-+, pattern--, pattern-*, pattern_cut, pattern_same, extended-pattern, FitsWidth-more, FitsWidth-wrap, pattern-wrap, pattern-zero, pattern_some}
 use Rattle.verilog_tree.specs.declared.tree.Op.TheVariants.{Add, Sub, Equal}
 use Rattle.verilog_tree.specs.declared.tree.ShiftOp.TheVariants.{ArithLeft, ArithRight}
 use Rattle.verilog_tree.specs.Tree.{Tree, Name, Part, Based, Binary, Shift, Choice}
-use Rattle.verilog_tree.specs.Meaning.{Shapes, Values, length_of, signed_of, value, alone, assigned, extension, picked, shifted, bit_of}
+use Rattle.verilog_tree.specs.Meaning.{Shapes, Values, length_of, signed_of, value, alone, assigned, picked, shifted, bit_of}
 use Rattle.verilog_tree.proofs.Powers.{power_order}
 use Rattle.verilog_tree.proofs.BitNumbers.{extension-true, shifted-pattern, selected-pattern}
 

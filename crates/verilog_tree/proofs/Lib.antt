@@ -7,3 +7,4 @@ pub mod DependsOnReads
 pub mod OneSettling
 pub mod BitNumbers
 pub mod Computes
+pub mod Resets

@@ -1,0 +1,6 @@
+pub mod Numbers
+pub mod Lists
+pub mod Nodes
+pub mod Cycles
+pub mod Along
+pub mod Outputs
