@@ -1,11 +1,11 @@
 -- Nets that grow by nodes of one group and of control.
-use Rattle.std.proofs.Common.{◌≡◌, ℕ, ◌≤◌, List, [], ◌∷◌, ◌++◌, length, refl, sym, ◌∙◌, ap, arith, Option, Some, None, slice_get, set, ◌⊎◌, inl, inr, subst, IsSome, true, false, not, ◌&&◌}
+use Rattle.std.proofs.Common.{◌≡◌, ℕ, ◌≤◌, List, [], ◌∷◌, ◌++◌, length, refl, sym, ◌∙◌, ap, arith, Option, Some, None, slice_get, set, ◌⊎◌, inl, inr, subst, IsSome, true, false, not, ◌&&◌, ◌<◌}
 use Rattle.std.proofs.lemmas.Option.{slice_get_within}
 use Rattle.std.proofs.lemmas.Bool.{cases_lt, cases_eq}
-use Rattle.net_graph.proofs.Lists.{slice_get-append_left, slice_get_push_cases, slice_get-set_other}
+use Rattle.net_graph.proofs.Lists.{slice_get-append_left, slice_get_push_cases, slice_get-set_other, slice_get-set_same}
 use Rattle.net_graph.proofs.GroupLemmas.{nameless_control}
 use Rattle.net_graph.proofs.CellLemmas.{same_cell, cell_at-there, cell_at-is}
-use Rattle.net_graph.proofs.NetLemmas.{Extends-refl, Extends-trans, Extends-adds, Extends-register, Extends-bind, cell_of_register, cell_of_bound}
+use Rattle.net_graph.proofs.NetLemmas.{Extends-refl, Extends-trans, Extends-adds, Extends-register, Extends-bind, cell_of_register, cell_of_bound, Extends-named}
 use Rattle.net_graph.specs.declared.cell.Cell.{Cell}
 use Rattle.net_graph.specs.declared.cell.Node.{Node}
 use Rattle.net_graph.specs.declared.cell.Item.{Item}
@@ -15,7 +15,7 @@ use Rattle.net_graph.specs.Cells.{NetView, cell_at}
 use Rattle.net_graph.specs.Name.{is_control, is_control_name, is_input}
 use Rattle.net_graph.specs.WellFormed.{IsBound}
 use Rattle.net_graph.specs.Control.{IsOfControl, ReadsControl, IsControlClosed}
-use Rattle.net_graph.specs.Grow.{Extends, IsKept, Adds, AddsRegister, IsUnbound, IsBoundTo, IsAdded, Grows, bound_to}
+use Rattle.net_graph.specs.Grow.{Extends, IsKept, Adds, AddsRegister, IsUnbound, IsBoundTo, IsNamedAs, IsAdded, Grows, bound_to, named_as}
 
 -- ---- control nodes read control nodes in a longer net too
 
@@ -239,4 +239,42 @@ Grows-bind {old} {mid} {new} {register} {next} {own} p wide b reads =
             | inl same ↦ absurd (let inside = slice_get_within mid.cells place own p.there in omega arith)
             | inr other ↦ absurd (let inside = slice_get_within mid.cells k cell (other_there k cell other there) in omega arith)
           ]);
+    }
+
+-- ---- one name more
+
+-- a node gets a name under which it stays control or not
+pub Grows-named : {old new : NetView} {node : Node} {name : Name} → node.place < length old.cells → (cell_at old.cells node.place).name ≡ None → is_control (named_as (cell_at old.cells node.place) name) ≡ is_control (cell_at old.cells node.place) → IsNamedAs old new node name → Grows old new
+Grows-named {old} {new} {node} {name} inside nameless same n =
+    let place = node.place in
+    let was = cell_at old.cells place in
+    let now = named_as was name in
+    let here = cell_at-there old.cells place inside in
+    let e = Extends-named inside nameless same n in
+    let there_now : slice_get new.cells place ≡ Some now = subst (λ (m : List Cell). slice_get m place ≡ Some now) (sym n.cells) (slice_get-set_same old.cells place now inside) in
+    let other_there : (k : ℕ) (cell : Cell) → (k ≡ place → ⊥) → slice_get new.cells k ≡ Some cell → slice_get old.cells k ≡ Some cell =
+    λ k cell other there. sym (slice_get-set_other old.cells place k now other) ∙ subst (λ (m : List Cell). slice_get m k ≡ Some cell) n.cells there in
+    let same_now : (k : ℕ) (cell : Cell) → k ≡ place → slice_get new.cells k ≡ Some cell → now ≡ cell =
+    λ k cell at there. same_cell now cell (slice_get new.cells place) there_now (subst (λ (m : ℕ). slice_get new.cells m ≡ Some cell) at there) in
+    record {
+      extends = e;
+      group = n.group;
+      bound = λ before. record {
+        each = λ k cell there. elim (cases_eq k place) [
+          | inl at ↦ subst (λ (c : Cell). IsSome c.item) (same_now k cell at there) (before.each place was here)
+          | inr other ↦ before.each k cell (other_there k cell other there)
+        ];
+      };
+      closed = λ before. record {
+        each = λ k cell there control. elim (cases_eq k place) [
+          | inl at ↦
+              let is : is_control was ≡ true = sym same ∙ ap is_control (same_now k cell at there) ∙ control in
+              subst (λ (c : Cell). ReadsControl new.cells c.item) (same_now k cell at there) (ReadsControl-later old.cells new.cells was.item e (before.each place was here is))
+          | inr other ↦ ReadsControl-later old.cells new.cells cell.item e (before.each k cell (other_there k cell other there) control)
+        ];
+      };
+      added = λ k cell after there. elim (cases_eq k place) [
+        | inl at ↦ absurd (omega arith)
+        | inr other ↦ absurd (let within = slice_get_within old.cells k cell (other_there k cell other there) in omega arith)
+      ];
     }

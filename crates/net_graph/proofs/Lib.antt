@@ -8,3 +8,4 @@ pub mod FreeLemmas
 pub mod RunLemmas
 pub mod ControlLemmas
 pub mod GrowLemmas
+pub mod BoundLemmas

@@ -1,5 +1,5 @@
 -- A register that counts to a tick, and then over and over a period up to the same number, all modulo 2 ^ w.
-use Rattle.std.proofs.Common.{◌≡◌, ℕ, zero, suc, ◌+◌, ◌*◌, ◌^◌, ◌<◌, ◌≤◌, refl, sym, ◌∙◌, ap, arith, Some, None, subst, ℤ, pos, negsuc, ◌+ℤ◌, ◌-ℤ◌, ◌≤ℤ◌, ◌<ℤ◌, ◌⊎◌, inl, inr, true, false, not, eqb, Bool, ◌&&◌}
+use Rattle.std.proofs.Common.{◌≡◌, ℕ, zero, suc, ◌+◌, ◌*◌, ◌^◌, ◌<◌, ◌≤◌, refl, sym, ◌∙◌, ap, arith, Some, None, subst, ℤ, pos, negsuc, ◌+ℤ◌, ◌-ℤ◌, ◌≤ℤ◌, ◌<ℤ◌, ◌⊎◌, inl, inr, true, false, not, eqb, Bool, ◌&&◌, length, slice_get, List}
 use Rattle.std.proofs.lemmas.Bool.{cases_eq}
 use Rattle.std.proofs.lemmas.Int.{ints}
 use Rattle.std.proofs.lemmas.Option.{slice_get_within}
@@ -18,8 +18,9 @@ use Rattle.net_graph.specs.Cut.{Cut, IsCut}
 use Rattle.net_graph.specs.Run.{Values, IsRun, equality}
 use Rattle.net_graph.specs.Control.{IsOfControl}
 use Rattle.net_graph.specs.Grow.{Extends, Grows, Adds, IsBoundTo, IsAdded}
+use Rattle.net_graph.proofs.Lists.{slice_get-append_left, slice_get-set_other}
 use Rattle.net_graph.proofs.GroupLemmas.{nameless_zero}
-use Rattle.net_graph.proofs.NetLemmas.{Extends-trans, Extends-adds, cell_of_added, cell_of_register}
+use Rattle.net_graph.proofs.NetLemmas.{Extends-adds, cell_of_added, cell_of_register}
 use Rattle.net_graph.proofs.GrowLemmas.{IsOfControl-later, GrowsBut, GrowsBut-register, GrowsBut-adds, GrowsBut-unbound, Grows-bind, Extends-grown, cell_of_grown}
 use Rattle.pipeline_balance.specs.Numbered.{AddsNext, name_of}
 use Rattle.pipeline_balance.specs.Gate.{IsTickOf, IsCounter}
@@ -166,6 +167,13 @@ control_added {old} {new} {node} {width} {item} a zero_group plain = record {
 pub control_then : {old new : NetView} {node : Node} {width place : ℕ} {item : Item} → IsOfControl old.cells place → Adds old new node width item → IsOfControl new.cells place
 control_then {old} {new} {node} {width} {place} is a = IsOfControl-later old.cells new.cells place (Extends-adds a) is
 
+-- other cells stay as they are
+pub there_then : {old new : NetView} {node : Node} {width : ℕ} {item : Item} {cell : Cell} (place : ℕ) → Adds old new node width item → slice_get old.cells place ≡ Some cell → slice_get new.cells place ≡ Some cell
+there_then {old} {new} {node} {width} {item} {cell} place a there = subst (λ (m : List Cell). slice_get m place ≡ Some cell) (sym a.cells) (slice_get-append_left old.cells _ place cell there)
+
+pub there_bound : {old new : NetView} {register next : Node} {cell : Cell} (place : ℕ) → IsBoundTo old new register next → (place ≡ register.place → ⊥) → slice_get old.cells place ≡ Some cell → slice_get new.cells place ≡ Some cell
+there_bound {old} {new} {register} {next} {cell} place b other there = subst (λ (m : List Cell). slice_get m place ≡ Some cell) (sym b.cells) (slice_get-set_other old.cells register.place place _ other ∙ there)
+
 -- the circuit, node by node
 pub IsCounter-circuit : {n0 n1 n2 n3 n4 n5 n6 n7 n8 : NetView} {w period first : ℕ} {count last restart one done more next : Node} → 1 ≤ w → 1 ≤ period → first < 2 ^ w → period ≤ 2 ^ w → n0.group ≡ 0
     → AddsNext n0 n1 0 Control w count → Adds n1 n2 last w (Constant (pos first)) → Adds n2 n3 restart w (Constant (pos (first + 1) -ℤ pos period)) → Adds n3 n4 one w (Constant (pos 1)) → Adds n4 n5 done 1 (Equal count last)
@@ -193,13 +201,15 @@ IsCounter-circuit {n0} {n1} {n2} {n3} {n4} {n5} {n6} {n7} {n8} {w} {period} {fir
     let p7 : GrowsBut n0 n7 count own = GrowsBut-adds p6 a7 refl (λ z. (done6, restart6, control_added a6 g5 refl)) in
     let grows : Grows n0 n8 = Grows-bind p7 wide b (λ is. control_added a7 g6 refl) in
     let x7 : Extends n7.cells n8.cells = Extends-grown p7 wide b in
-    let x5 : Extends n5.cells n8.cells = Extends-trans n5.cells n6.cells n8.cells (Extends-adds a6) (Extends-trans n6.cells n7.cells n8.cells (Extends-adds a7) x7) in
-    let kept = x5.keeps done.place _ (cell_of_added a5) in
+    let own_inside : count.place < length n1.cells = slice_get_within n1.cells count.place _ (cell_of_register a1.adds) in
+    let longer : length n1.cells ≤ length n4.cells = let l2 = (Extends-adds a2).longer in let l3 = (Extends-adds a3).longer in let l4 = (Extends-adds a4).longer in omega arith in
+    let there = there_bound done.place b (λ same. let at = a5.place in absurd (omega arith)) (there_then done.place a7 (there_then done.place a6 (cell_of_added a5))) in
     record {
       grows = grows;
-      shape = record { cell = kept.cell; there = kept.there; same_control = kept.control ∙ nameless_zero n4.group g4; same_width = kept.width };
+      shape = record { cell = _; there = there; same_control = nameless_zero n4.group g4; same_width = refl };
+      nameless = refl;
       bit_of = record {
-        within = slice_get_within n8.cells done.place kept.cell kept.there;
+        within = slice_get_within n8.cells done.place _ there;
         sets = λ cut law x v r. sets v w period first count last restart one done more next wide positive room_first room_period (counts p7 x7 cut law x v r);
         clears = λ cut law x v r. clears v w period first count last restart one done more next wide positive room_first room_period (counts p7 x7 cut law x v r);
       };
@@ -255,6 +265,7 @@ IsCounter-regroup {old} {mid} {new} {last} {ticks} {bit} {group} same first put_
         added = λ place cell after there. added_anyhow old.group cell (q.grows.added place cell after there);
       };
       shape = q.shape;
+      nameless = q.nameless;
       bit_of = q.bit_of;
       names = q.names;
     } in

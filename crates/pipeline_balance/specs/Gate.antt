@@ -23,11 +23,12 @@ pub record IsBitOf (cells : List Cell) (ticks : ℕ → Type 0) (bit : Node) : T
   pub sets : (cut : Cut) → IsCut cut → (inputs : ℕ → ℤ) (values : Values) → IsRun cut cells inputs values → (t : ℕ) → ticks t → values t bit.place ≡ set_bit
   pub clears : (cut : Cut) → IsCut cut → (inputs : ℕ → ℤ) (values : Values) → IsRun cut cells inputs values → (t : ℕ) → (ticks t → ⊥) → values t bit.place ≡ pos 0
 
--- The new net has a control bit that is set exactly at the ticks of a kind. All nodes that it has more are control, and of names
+-- The new net has a control bit without a name that is set exactly at the ticks of a kind. All nodes that it has more are control, and of names
 -- only some of control are taken.
 pub record IsCounter (old new : NetView) (ticks : ℕ → Type 0) (bit : Node) : Type 0 where
   pub grows : Grows old new
   pub shape : HasShape new.cells bit.place true 1
+  pub nameless : shape.cell.name ≡ None
   pub bit_of : IsBitOf new.cells ticks bit
   pub names : LeavesFree old.cells new.cells (λ name. name.kind ≡ Control)
 

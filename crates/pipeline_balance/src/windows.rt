@@ -78,6 +78,7 @@ pub fn window(alloc: Global, net: &mut Net, from: Stream, depth: u32) -> Result<
     requires data_group { 1 ≤ net.old.group }
     requires positive { 1 ≤ from.period }
     ensures count { IfOk result (λ nodes. vec_len nodes ≡ depth) }
+    ensures many { IfOk result (λ nodes. length nodes.items ≡ depth) }
     ensures window { IfOk result (λ nodes. IsWindow net.old net.new from nodes.items) }
     ensures extends { Extends net.old.cells net.new.cells }
     ensures group { net.new.group ≡ net.old.group }
