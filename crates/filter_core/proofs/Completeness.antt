@@ -1,0 +1,36 @@
+-- A command whose files are there and accepted is done, unless a host call or memory fails.
+use Rattle.std.proofs.Common.{◌≡◌, ◌<◌, ◌≤◌, ◌^◌, ℕ, zero, suc, slice_index_or, List, [], ◌∷◌, length, Some, None, Result, Ok, Err, IsOkUnless, inl, inr, sym, ◌∙◌, subst, arith, refl}
+use Rattle.std.proofs.lemmas.Option.{same_Some}
+use Rattle.std.specs.FinMap.{get}
+use Rattle.mr_values.specs.Faults.{IsRisen}
+use Rattle.mr_values.specs.Files.{Files}
+use Rattle.mr_values.specs.Host.{HostState}
+use Rattle.filter_core.specs.declared.fault.Fault.{Fault}
+use Rattle.filter_core.specs.declared.fault.Fault.TheVariants.{HostFault, Memory, FileTooLong, NotBuilt}
+use Rattle.filter_core.specs.declared.fault.FileKind.TheVariants.{Plan}
+use Rattle.filter_core.specs.FirstPlan.{FirstPlan, IsFirstPlan}
+use Rattle.filter_core.specs.Ends.{IsStruckFor, IsMissing, call_of}
+use Rattle.filter_core.specs.Compile.{IsAccepted, CompileEnds}
+
+-- a file that is there isn't missing
+there_isnt_missing : (name bytes : List ℕ) (files : Files) → get files name ≡ Some bytes → IsMissing (name ∷ []) files → ⊥
+there_isnt_missing name bytes files there missing = at missing.0 missing.1 missing.2 missing.3 missing.4
+  where
+    at : (k : ℕ) (x : List ℕ) → k < 1 → slice_index_or (name ∷ []) k x ≡ x → get files x ≡ None → ⊥
+    at zero x h same none = let gone : get files name ≡ None = rw same none in cc
+    at (suc k) x h same none = absurd (omega arith)
+
+pub compile-complete : (plan text report : List ℕ) (result : Result (Unit {0}) Fault) (old new : HostState) → IsStruckFor (plan ∷ []) (call_of result) old new → CompileEnds plan text report result old new
+    → (meaning : FirstPlan) → IsAccepted plan old.files meaning → ¬ IsRisen old.struck new.struck → IsOkUnless result Memory
+compile-complete plan text report (Ok done) old new struck ends meaning accepted unstruck = tt
+compile-complete plan text report (Err Memory) old new struck ends meaning accepted unstruck = refl
+compile-complete plan text report (Err (HostFault call)) old new (inl risen) ends meaning accepted unstruck = absurd (unstruck risen)
+compile-complete plan text report (Err (HostFault call)) old new (inr missing) ends meaning accepted unstruck = absurd (there_isnt_missing _ _ _ accepted.there missing.1)
+compile-complete plan text report (Err (FileTooLong Plan)) old new struck ends meaning accepted unstruck =
+    let same : ends.0.bytes ≡ accepted.bytes = same_Some _ _ (sym ends.0.there ∙ accepted.there) in
+    let short : length ends.0.bytes ≤ 2 ^ 20 = rw same accepted.short in
+    absurd (omega (arith, short, ends.0.long))
+compile-complete plan text report (Err NotBuilt) old new struck ends meaning accepted unstruck =
+    let same : accepted.bytes ≡ ends.0.bytes = same_Some _ _ (sym accepted.there ∙ ends.0.there) in
+    absurd (ends.0.other meaning (subst (λ bytes. IsFirstPlan bytes meaning) same accepted.first))
+compile-complete plan text report (Err _) old new struck ends meaning accepted unstruck = absurd ends

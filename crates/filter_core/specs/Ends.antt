@@ -1,0 +1,39 @@
+-- How a command ends: which host call, if any, is to blame, and what the counts of faults say of it.
+use Rattle.std.specs.Prelude.{◌≡◌, ◌⊎◌, ℕ, List, IsTrue, Option, Some, None, Result, Ok, Err, Any}
+use Rattle.std.specs.FinMap.{get}
+use Rattle.mr_values.specs.declared.host.HostCall.{HostCall}
+use Rattle.mr_values.specs.declared.host.HostCall.TheVariants.{OpenInput}
+use Rattle.mr_values.specs.Faults.{IsRisen, count_of}
+use Rattle.mr_values.specs.Files.{Files}
+use Rattle.mr_values.specs.Host.{HostState}
+use Rattle.filter_core.specs.declared.fault.Fault.{Fault}
+use Rattle.filter_core.specs.declared.fault.Fault.TheVariants.{HostFault}
+
+-- the host call that a fault blames
+abbrev pub blamed_call : Fault → Option HostCall
+blamed_call (HostFault call) = Some call
+blamed_call _ = None
+
+abbrev pub call_of : {A : Type 0} → Result A Fault → Option HostCall
+call_of (Ok value) = None
+call_of (Err fault) = blamed_call fault
+
+-- A blamed call's count has risen. Where none is blamed, all counts are as before.
+abbrev pub IsBlamed : Option HostCall → HostState → HostState → Type 0
+IsBlamed None old new = new.faults ≡ old.faults
+IsBlamed (Some call) old new = IsRisen (count_of call old.faults) (count_of call new.faults)
+
+-- one of these files isn't there
+abbrev pub IsMissing : List (List ℕ) → Files → Type 0
+IsMissing names files = Any (λ name. get files name ≡ None) names
+
+-- Over told files, a call is blamed only where the host was struck, or where a file to be read isn't there.
+abbrev pub IsStruckFor : List (List ℕ) → Option HostCall → HostState → HostState → Type 0
+IsStruckFor reads None old new = new.struck ≡ old.struck
+IsStruckFor reads (Some call) old new = IsRisen old.struck new.struck ⊎ ((call ≡ OpenInput) × IsMissing reads old.files)
+
+-- how a command that reads these files, or a part of one, ends
+pub record EndsWith (reads : List (List ℕ)) (call : Option HostCall) (old new : HostState) : Type 0 where
+  pub same_kind : new.tells ≡ old.tells
+  pub blamed : IsBlamed call old new
+  pub struck : IsTrue old.tells → IsStruckFor reads call old new

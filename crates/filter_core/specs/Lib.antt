@@ -1,0 +1,12 @@
+pub mod Ends
+pub mod WholeFiles
+pub mod SingleTap
+pub mod FirstPlan
+pub mod PlanMeanings
+pub mod FirstText
+pub mod CommandWords
+pub mod Compile
+pub mod Tool
+pub mod FaultWords
+pub mod FaultLines
+pub mod Statuses

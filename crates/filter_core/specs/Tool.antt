@@ -1,0 +1,46 @@
+-- What the program's answers mean, command by command.
+use Rattle.std.specs.Prelude.{◌≡◌, ℕ, List, [], ◌∷◌, Option, Some, None, Result, Ok, Err}
+use Rattle.mr_values.specs.Files.{Files}
+use Rattle.mr_values.specs.Host.{HostState}
+use Rattle.filter_core.specs.declared.fault.Fault.{Fault}
+use Rattle.filter_core.specs.declared.fault.Fault.TheVariants.{Usage, NotBuilt}
+use Rattle.filter_core.specs.CommandWords.{CommandWords, compile_words}
+use Rattle.filter_core.specs.FirstPlan.{FirstPlan}
+use Rattle.filter_core.specs.Compile.{CompileEnds, IsAccepted}
+
+-- the files that a command reads
+abbrev pub files_read : CommandWords → List (List ℕ)
+files_read (compile_words plan text report) = plan ∷ []
+files_read _ = []
+
+-- a command that isn't built makes no host call
+abbrev pub IsUnbuilt : CommandWords → Result (Unit {0}) Fault → HostState → HostState → Type 0
+IsUnbuilt (compile_words plan text report) result old new = Unit {0}
+IsUnbuilt _ result old new = (result ≡ Err NotBuilt) × (new ≡ old)
+
+-- each command's answers, and the host after them
+abbrev pub CommandEnds : CommandWords → Result (Unit {0}) Fault → HostState → HostState → Type 0
+CommandEnds (compile_words plan text report) result old new = CompileEnds plan text report result old new
+CommandEnds _ result old new = (result ≡ Err NotBuilt) × (new ≡ old)
+
+-- the files that a command reads are there and accepted
+abbrev pub IsReady : CommandWords → Files → Type 0
+IsReady (compile_words plan text report) files = (meaning : FirstPlan) × IsAccepted plan files meaning
+IsReady _ files = ⊥
+
+-- the same of words that may be no command
+abbrev pub files_read_by : Option CommandWords → List (List ℕ)
+files_read_by None = []
+files_read_by (Some command) = files_read command
+
+abbrev pub IsUnbuiltBy : Option CommandWords → Result (Unit {0}) Fault → HostState → HostState → Type 0
+IsUnbuiltBy None result old new = Unit {0}
+IsUnbuiltBy (Some command) result old new = IsUnbuilt command result old new
+
+abbrev pub ToolEnds : Option CommandWords → Result (Unit {0}) Fault → HostState → HostState → Type 0
+ToolEnds None result old new = (result ≡ Err Usage) × (new ≡ old)
+ToolEnds (Some command) result old new = CommandEnds command result old new
+
+abbrev pub result_of : Option Fault → Result (Unit {0}) Fault
+result_of None = Ok tt
+result_of (Some fault) = Err fault

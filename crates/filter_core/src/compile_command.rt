@@ -1,0 +1,39 @@
+// The command `compile`.
+ghost use Rattle.std.specs.Prelude.{◌≡◌, ◌≢◌, Err, ◌∷◌, [], IsTrue};
+ghost use Rattle.filter_core.specs.Ends.{EndsWith, call_of};
+ghost use Rattle.filter_core.specs.Compile.{CompileEnds};
+
+use crate::files::{read_file, write_file};
+use crate::first_text::{module_text, report_text};
+use crate::plan::read_first_plan;
+use crate::{Fault, FileKind};
+use mr_values::Host;
+use std::alloc::Global;
+
+/// The most bytes of a plan.
+pub const PLAN_LIMIT: usize = 1 << 20;
+
+/// Reads PLAN whole, and writes the module to TEXT and then the report to REPORT. Fails with `FileTooLong` where PLAN
+/// has more than 1 MiB, with `NotBuilt` where it isn't a first plan, with `HostFault` where a host call fails, and for want of memory.
+pub fn compile<H: Host>(
+    alloc: Global,
+    plan: &str,
+    text: &str,
+    report: &str,
+    host: &mut H,
+) -> Result<(), Fault>
+    ensures cause { EndsWith (plan.now ∷ []) (call_of result) (H.state host.old) (H.state host.new) }
+    ensures command { result ≢ Err Fault.Usage }
+    ensures told { IsTrue (H.state host.old).tells → CompileEnds plan.now text.now report.now result (H.state host.old) (H.state host.new) }
+{
+    let bytes = read_file(alloc, host, plan, FileKind::Plan, PLAN_LIMIT)?;
+    let Some(found) = read_first_plan(alloc, &bytes)? else {
+        return Err(Fault::NotBuilt);
+    };
+    let module = module_text(alloc, &found)?;
+    let lines = report_text(alloc, &found)?;
+    match write_file(host, text, &module) {
+        Ok(()) => write_file(host, report, &lines),
+        Err(fault) => Err(fault),
+    }
+}

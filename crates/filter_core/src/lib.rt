@@ -1,0 +1,22 @@
+//! The commands of the filter compiler, over a host.
+#![tactic(auto)]
+
+mod compile_command;
+mod fault;
+mod fault_lines;
+mod fault_words;
+mod files;
+mod first_plan;
+mod first_text;
+mod plan;
+mod single_tap;
+mod status;
+mod tool;
+mod words;
+
+pub use fault::{Fault, FileKind};
+pub use mr_values::HostCall;
+pub use tool::{Outcome, filter_tool};
+
+#[cfg(test)]
+mod tests;

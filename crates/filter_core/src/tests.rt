@@ -1,0 +1,139 @@
+//! The program over a host in memory.
+use crate::{Fault, FileKind, HostCall, filter_tool};
+use mr_values::MemoryHost;
+use std::alloc::Global;
+use std::test::Fail;
+
+const PLAN: &[u8] = b"version = 1\nwidth = 4\n[[element]]\nkind = \"filter\"\ntaps = [0, 4]\n";
+
+const REPORT: &[u8] = b"latency 2\nperiod 1\nbound 0\nshift 0\noutput 6\n";
+
+fn host_with(alloc: Global, plan: &[u8]) -> Result<MemoryHost, Fail> {
+    let mut host = MemoryHost::new(alloc);
+    host.add_file("plan", plan)?;
+    Ok(host)
+}
+
+fn words(alloc: Global, line: &str) -> Result<Vec<String>, Fail> {
+    let mut words = Vec::new(alloc);
+    for word in line.split_whitespace() {
+        words.push(String::from_str(alloc, word)?)?;
+    }
+    Ok(words)
+}
+
+#[test]
+fn compiles_in_pieces(rt: HostRuntime) -> Result<(), Fail> {
+    let alloc = rt.alloc();
+    let mut host = host_with(alloc, PLAN)?;
+    host.set_piece(3);
+    let outcome = filter_tool(alloc, &words(alloc, "compile plan text report")?, &mut host);
+    assert_eq!(rt; outcome.status, 0);
+    assert!(rt; outcome.fault.is_none());
+    assert_eq!(rt; host.file("report"), Some(REPORT));
+    assert_eq!(rt; host.file("plan"), Some(PLAN));
+    let text = host.file("text").ok_or("no text")?;
+    assert!(rt; text.ends_with(b"endmodule\n"));
+    Ok(())
+}
+
+#[test]
+fn stops_at_a_failed_put(rt: HostRuntime) -> Result<(), Fail> {
+    let alloc = rt.alloc();
+    let mut host = host_with(alloc, PLAN)?;
+    host.fail_call(4)?;
+    let outcome = filter_tool(alloc, &words(alloc, "compile plan text report")?, &mut host);
+    assert_eq!(rt; outcome.status, 3);
+    let fault = outcome.fault.ok_or("no fault")?;
+    assert!(rt;
+        matches!(
+            &fault,
+            Fault::HostFault {
+                call: HostCall::Put
+            }
+        )
+    );
+    assert_eq!(rt;
+        format!(in alloc; "{fault}")?.as_str(),
+        "HostFault call=Put"
+    );
+    let text = host.file("text").ok_or("no text")?;
+    assert!(rt; text.starts_with(b"/* verilator lint_off WIDTH */\n"));
+    assert!(rt; !text.ends_with(b"endmodule\n"));
+    assert_eq!(rt; host.file("report"), None);
+    Ok(())
+}
+
+#[test]
+fn names_the_missing_file(rt: HostRuntime) -> Result<(), Fail> {
+    let alloc = rt.alloc();
+    let mut host = MemoryHost::new(alloc);
+    let outcome = filter_tool(alloc, &words(alloc, "compile plan text report")?, &mut host);
+    assert_eq!(rt; outcome.status, 3);
+    let fault = outcome.fault.ok_or("no fault")?;
+    assert_eq!(rt;
+        format!(in alloc; "{fault}")?.as_str(),
+        "HostFault call=OpenInput"
+    );
+    assert_eq!(rt; host.file("text"), None);
+    Ok(())
+}
+
+#[test]
+fn refuses_words_that_are_no_command(rt: HostRuntime) -> Result<(), Fail> {
+    let alloc = rt.alloc();
+    for line in [
+        "",
+        "compile",
+        "compile a b b",
+        "run a b",
+        "demo 18446744073709551616 o",
+        "order a b c x",
+        "noble a a",
+        "--help",
+    ] {
+        let mut host = MemoryHost::new(alloc);
+        let outcome = filter_tool(alloc, &words(alloc, line)?, &mut host);
+        assert_eq!(rt; outcome.status, 2, "{line}");
+    }
+    Ok(())
+}
+
+#[test]
+fn leaves_what_is_not_built(rt: HostRuntime) -> Result<(), Fail> {
+    let alloc = rt.alloc();
+    for taps in ["[-8]", "[0, 3]", "[]", "[4, 4]", "[4611686018427387905]"] {
+        let plan = format!(in alloc;
+            "version = 1\nwidth = 4\n[[element]]\nkind = \"filter\"\ntaps = {taps}\n"
+        )?;
+        let mut host = host_with(alloc, plan.as_bytes())?;
+        let outcome = filter_tool(alloc, &words(alloc, "compile plan text report")?, &mut host);
+        assert_eq!(rt; outcome.status, 70, "{taps}");
+        assert_eq!(rt; host.file("text"), None);
+    }
+    Ok(())
+}
+
+#[test]
+fn refuses_a_long_plan(rt: HostRuntime) -> Result<(), Fail> {
+    let alloc = rt.alloc();
+    let mut long = Vec::new(alloc);
+    long.resize(1_048_577, b' ')?;
+    let mut host = host_with(alloc, &long)?;
+    let outcome = filter_tool(alloc, &words(alloc, "compile plan text report")?, &mut host);
+    assert_eq!(rt; outcome.status, 10);
+    let fault = outcome.fault.ok_or("no fault")?;
+    assert!(rt;
+        matches!(
+            &fault,
+            Fault::FileTooLong {
+                file: FileKind::Plan
+            }
+        )
+    );
+    assert_eq!(rt;
+        format!(in alloc; "{fault}")?.as_str(),
+        "FileTooLong file=Plan"
+    );
+    Ok(())
+}

@@ -1,0 +1,74 @@
+// The top call.
+ghost use Rattle.std.specs.Prelude.{◌≡◌, ◌↔◌, ◌≢◌, Err, IsOkUnless, map, IsTrue, string_bytes, Some, None};
+ghost use Rattle.mr_values.specs.Faults.{IsRisen};
+ghost use Rattle.filter_core.specs.CommandWords.{CommandWords, words_of, command_of};
+ghost use Rattle.filter_core.specs.Ends.{EndsWith, call_of};
+ghost use Rattle.filter_core.specs.Statuses.{status_of};
+ghost use Rattle.filter_core.specs.Tool.{CommandEnds, ToolEnds, IsUnbuilt, IsUnbuiltBy, IsReady, files_read, files_read_by, result_of};
+
+use crate::Fault;
+use crate::compile_command::compile;
+use crate::status::status_of;
+use crate::words::{Command, read_words};
+use mr_values::Host;
+use std::alloc::Global;
+
+/// What the program answers.
+#[derive(Debug, Drop)]
+pub struct Outcome {
+    pub status: u8,
+    pub fault: Option<Fault>,
+}
+
+/// Does the command that the words are.
+pub fn filter_tool<H: Host>(alloc: Global, words: &[String], host: &mut H) -> Outcome
+    ensures status { result.status ≡ status_of result.fault }
+
+    // Words that are no command make no host call.
+    ensures usage { (result.fault ≡ Some Fault.Usage) ↔ (command_of (map string_bytes words.now) ≡ None) }
+    ensures untouched { result.fault ≡ Some Fault.Usage → H.state host.new ≡ H.state host.old }
+
+    // A blamed host call has failed, and over told files it was struck, or a file isn't there.
+    ensures cause { EndsWith (files_read_by (command_of (map string_bytes words.now))) (call_of (result_of result.fault)) (H.state host.old) (H.state host.new) }
+
+    // A command that isn't built is refused at once.
+    ensures unbuilt { IsUnbuiltBy (command_of (map string_bytes words.now)) (result_of result.fault) (H.state host.old) (H.state host.new) }
+
+    // What each answer says of the files, before and after.
+    ensures told { IsTrue (H.state host.old).tells → ToolEnds (command_of (map string_bytes words.now)) (result_of result.fault) (H.state host.old) (H.state host.new) }
+
+    // A command whose files are there and accepted is done, unless a host call or memory fails.
+    ensures complete { (command : CommandWords) → command_of (map string_bytes words.now) ≡ Some command → IsTrue (H.state host.old).tells → IsReady command (H.state host.old).files
+        → ¬ IsRisen (H.state host.old).struck (H.state host.new).struck → IsOkUnless (result_of result.fault) Fault.Memory }
+{
+    let fault = match read_words(words) {
+        Some(command) => match run(alloc, command, host) {
+            Ok(()) => None,
+            Err(fault) => Some(fault),
+        },
+        None => Some(Fault::Usage),
+    };
+    Outcome {
+        status: status_of(&fault),
+        fault,
+    }
+}
+
+fn run<H: Host>(alloc: Global, command: Command<'_>, host: &mut H) -> Result<(), Fault>
+    ensures cause { EndsWith (files_read (words_of command.entry)) (call_of result) (H.state host.old) (H.state host.new) }
+    ensures told { IsTrue (H.state host.old).tells → CommandEnds (words_of command.entry) result (H.state host.old) (H.state host.new) }
+    ensures command { result ≢ Err Fault.Usage }
+    ensures unbuilt { IsUnbuilt (words_of command.entry) result (H.state host.old) (H.state host.new) }
+    ensures complete { IsTrue (H.state host.old).tells → IsReady (words_of command.entry) (H.state host.old).files
+        → ¬ IsRisen (H.state host.old).struck (H.state host.new).struck → IsOkUnless result Fault.Memory }
+{
+    match command {
+        Command::Compile { plan, text, report } => compile(alloc, plan, text, report, host),
+        Command::Run { .. } => Err(Fault::NotBuilt),
+        Command::Sim { .. } => Err(Fault::NotBuilt),
+        Command::Order { .. } => Err(Fault::NotBuilt),
+        Command::Extreme { .. } => Err(Fault::NotBuilt),
+        Command::Noble { .. } => Err(Fault::NotBuilt),
+        Command::Demo { .. } => Err(Fault::NotBuilt),
+    }
+}
