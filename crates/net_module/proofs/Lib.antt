@@ -1,4 +1,5 @@
 pub mod Numbers
+pub mod Loops
 pub mod Lists
 pub mod Nodes
 pub mod Cycles

@@ -1,0 +1,15 @@
+use Rattle.std.proofs.Common.{sym, ◌∙◌, ap, arith}
+use Rattle.net_graph.specs.declared.cell.Cell.{Cell}
+use Rattle.net_module.specs.Written.{has_kind, is_valid_kind}
+use Rattle.net_module.proofs.Loops.{not_before_more, first_is}
+use Rattle.net_module.proofs.write.find_valid.Goals as goal
+
+pub loop-place-preserved : goal.loop-place-preserved
+loop-place-preserved c =
+    not_before_more (λ (c : Cell). has_kind is_valid_kind c.name) c.args.net.now c.loop-place.place c.loop-place.invariant
+    (sym (c.is_valid.ensures ∙ ap (λ (c : Cell). has_kind is_valid_kind c.name) c.cell_of.ensures.cell) ∙ c.if-is_valid.false)
+
+pub returns-then-is_valid-clause-place : goal.returns-then-is_valid-clause-place
+returns-then-is_valid-clause-place c =
+    c.node.ensures ∙ first_is (λ (c : Cell). has_kind is_valid_kind c.name) c.args.net.now c.loop-place.place (omega (arith, c.loop-place-test.true, c.len-place-end.ensures.count)) c.loop-place.invariant
+    (sym (c.is_valid.ensures ∙ ap (λ (c : Cell). has_kind is_valid_kind c.name) c.cell_of.ensures.cell) ∙ c.if-is_valid.true)
