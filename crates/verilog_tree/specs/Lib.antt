@@ -9,3 +9,4 @@ pub mod Uncut
 pub mod Counted
 pub mod Alike
 pub mod Laws
+pub mod Renaming

@@ -1,0 +1,9 @@
+pub mod Spelled
+pub mod Numerals
+pub mod LaidOut
+pub mod Renamed
+pub mod Shortest
+pub mod Writable
+pub mod Numbering
+pub mod Back
+pub mod RoundTrip

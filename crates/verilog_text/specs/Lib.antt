@@ -1,0 +1,10 @@
+pub mod Spelling
+pub mod Lexer
+pub mod Names
+pub mod Grammar
+pub mod Statements
+pub mod Text
+pub mod Reading
+pub mod Layout
+pub mod Renamed
+pub mod Shortest
