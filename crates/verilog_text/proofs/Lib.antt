@@ -5,5 +5,6 @@ pub mod Renamed
 pub mod Shortest
 pub mod Writable
 pub mod Numbering
-pub mod Back
+pub mod Holds
+pub mod Alike
 pub mod RoundTrip

@@ -1,16 +1,14 @@
 -- The bytes of a writing read as a module that is alike.
-use Rattle.std.proofs.Common.{◌≡◌, ℕ, ◌+◌, ◌-◌, ◌<◌, ◌≤◌, ◌^◌, Bool, true, false, List, [], ◌∷◌, ◌++◌, length, refl, sym, ap, ◌∙◌, subst, arith, append_assoc}
-use Rattle.std.specs.Prelude.{map, filter, not, Option, Some, None}
-use Rattle.std.specs.List.Sorted.{IsPermutation}
+use Rattle.std.proofs.Common.{◌≡◌, ℕ, zero, suc, ◌+◌, ◌-◌, ◌<◌, ◌≤◌, ◌^◌, Bool, true, false, List, [], ◌∷◌, ◌++◌, length, refl, sym, ap, ◌∙◌, subst, arith, append_assoc}
+use Rattle.std.specs.Prelude.{map, filter, not, slice_get, Option, Some, None}
 use Rattle.std.proofs.lemmas.List.{append-nil}
-use Rattle.std.proofs.lemmas.List.Sorted.{IsPermutation-sym, IsPermutation-map, IsPermutation-filter_both}
 use Rattle.std.proofs.lemmas.Bool.{cond_both}
 use Rattle.verilog_tree.specs.declared.tree.Kind.{Kind}
 use Rattle.verilog_tree.specs.declared.tree.Kind.TheVariants as kind
 use Rattle.verilog_tree.specs.declared.tree.Signal.{Signal}
 use Rattle.verilog_tree.specs.Tree.{Tree, Action, Assignment, Design}
 use Rattle.verilog_tree.specs.Renaming.{name_in, number_in, tree_in, action_in, assignment_in, signal_in}
-use Rattle.verilog_tree.specs.Alike.{unblocked, unplaced, renumbered, IsAlike}
+use Rattle.verilog_tree.specs.Alike.{SameName, AreAlikeAssigns, AreAlikeBlocks, IsAlikeSignal, IsAlike}
 use Rattle.verilog_text.specs.declared.token.Decimal.{Decimal}
 use Rattle.verilog_text.specs.declared.token.Token.{Token}
 use Rattle.verilog_text.specs.Grammar.{depth, operators, tree_of, Limits, limits}
@@ -23,10 +21,11 @@ use Rattle.verilog_text.specs.Layout.{AreSpelled, laid_out, placed, heading}
 use Rattle.verilog_text.specs.Renamed.{item_in, text_in}
 use Rattle.verilog_text.specs.Shortest.{spelling, statement_of, range_of, shape_of, is_port, direction_of, store_of, fresh_of, port_of, declared_of, assigned_of, clocked_of, ports_in, stores_in, items_of, first_port, other_ports, text_of, IsFormedAssignment, IsFormedBlock, IsFormedSignal, AllFormed, IsWritable}
 use Rattle.verilog_text.proofs.LaidOut.{text_reads_back}
-use Rattle.verilog_text.proofs.Shortest.{tree_of-spelling, grouped_spelling, parted_statement, unblocked_statement}
+use Rattle.verilog_text.proofs.Shortest.{tree_of-spelling, grouped_spelling, parted_statement, plain_action-statement}
 use Rattle.verilog_text.proofs.Renamed.{tokens_of_in, items_good_in, signals_of_in, assigns_of_in, blocks_of_in}
 use Rattle.verilog_text.proofs.Numbering.{name_of_number, number_of_name, OfNames, each, found, lexemes_of_placed}
-use Rattle.verilog_text.proofs.Back.{Back, TextBack, text_back}
+use Rattle.verilog_text.proofs.Holds.{OfSignal, OfAssignment, OfAction, of_text}
+use Rattle.verilog_text.proofs.Alike.{SameElements, parted, Along, ends, goes, along_get, along_from, alike_assigns, alike_blocks}
 use Rattle.verilog_text.proofs.Writable.{text_spelled, all_filtered}
 
 -- ---- the writing is within the grammar
@@ -102,10 +101,6 @@ blocks_clocked : (xs : List Action) → blocks_of (map clocked_of xs) ≡ writte
 blocks_clocked [] = refl
 blocks_clocked (a ∷ xs) = ap (λ zs. action_of (statement_of a) ∷ zs) (blocks_clocked xs)
 
-unblocked_blocks : (bounds : Limits) (n : ℕ) (xs : List Action) → AllFormed (IsFormedBlock bounds n) xs → map unblocked (written_blocks xs) ≡ map unblocked xs
-unblocked_blocks bounds n [] f = refl
-unblocked_blocks bounds n (a ∷ xs) f = let x = unblocked_statement a in let y = unblocked_blocks bounds n xs f.1 in cc (x, y)
-
 pub assigns_of-items_of : (bounds : Limits) (d : Design) → IsWritable bounds d → assigns_of (items_of d) ≡ d.assigns
 assigns_of-items_of bounds d w =
     assigns_of-join (map declared_of (stores_in d.signals)) _
@@ -122,6 +117,10 @@ blocks_of-items_of d =
     ∙ blocks_of-join (map assigned_of d.assigns) (map clocked_of d.blocks)
     ∙ ap (λ zs. zs ++ blocks_of (map clocked_of d.blocks)) (no_blocks_assigned d.assigns)
     ∙ blocks_clocked d.blocks
+
+-- a declaration wherever it stands
+abbrev pub unplaced : Signal → Signal
+unplaced s = record s { place = 0 }
 
 -- a declaration is read as it was, but for its place
 record IsShaped (range : Option Decimal) (ranged : Bool) (width : ℕ) : Type 0 where
@@ -186,14 +185,10 @@ signals_of-text_of bounds d w =
 
 -- ---- the round trip
 
-unplaced_placed : (f : Signal → Signal) → ((s : Signal) (p : ℕ) → f (record s { place = p }) ≡ f s) → (ps : List ℕ) (ss : List Signal) → map f (with_places ps ss) ≡ map f ss
-unplaced_placed f same [] ss = refl
-unplaced_placed f same (p ∷ ps) [] = refl
-unplaced_placed f same (p ∷ ps) (s ∷ ss) = let x = same s p in let y = unplaced_placed f same ps ss in cc (x, y)
-
-map_after : {A B : Type 0} (f : A → B) (g : A → A) (xs : List A) → map f (map g xs) ≡ map (λ x. f (g x)) xs
-map_after f g [] = refl
-map_after f g (x ∷ xs) = ap (λ ys. f (g x) ∷ ys) (map_after f g xs)
+some_name : (names : List (List ℕ)) (n : ℕ) → n < length names → slice_get names n ≡ Some (name_in names n)
+some_name [] n h = absurd (omega arith)
+some_name (x ∷ names) zero h = refl
+some_name (x ∷ names) (suc n) h = some_name names n (omega arith)
 
 -- where tokens are laid out, and the names that are found there
 abbrev pub pieces_of : Design → List Placed
@@ -230,55 +225,66 @@ module _ (d : Design) (w : IsWritable limits d) where
         design_is = refl;
       }
 
--- each name that is found is numbered back
-numbered_back : (d : Design) → IsWritable limits d → OfNames (Back (number_found d) (renumbered (read_back d) d)) (tokens_of (number_in d.names clock_text) (text_of d))
-numbered_back d w =
+-- each name that is found has its text there too
+pub names_back : (d : Design) → IsWritable limits d → OfNames (λ n. SameName (names_of d) d.names (number_found d n) n) (tokens_of (number_in d.names clock_text) (text_of d))
+names_back d w =
     let tokens : List Token = tokens_of (number_in d.names clock_text) (text_of d) in
-    each (λ n. (n < length d.names) × (number_found d n < length (names_of d))) (Back (number_found d) (renumbered (read_back d) d))
-    (λ n h. ap (number_in d.names) (name_of_number (names_of d) (name_in d.names n) h.1) ∙ number_of_name d.names n w.distinct h.0)
+    each (λ n. (n < length d.names) × (number_found d n < length (names_of d))) (λ n. SameName (names_of d) d.names (number_found d n) n)
+    (λ n h. (name_in d.names n, some_name (names_of d) (number_found d n) h.1 ∙ ap Some (name_of_number (names_of d) (name_in d.names n) h.1), some_name d.names n h.0))
     tokens (found d.names [] (0 + length heading) tokens (text_spelled limits d w))
 
--- the module's declarations as the text has them: the ports first
-pub signals_back : (d : Design) → IsWritable limits d → map (λ s. unplaced (signal_in (renumbered (read_back d) d) s)) (read_back d).signals ≡ written_signals d
-signals_back d w =
-    let to : ℕ → ℕ = renumbered (read_back d) d in
-    let from : ℕ → ℕ = number_found d in
-    let t : Text = text_of d in
-    let b = text_back from to (number_in d.names clock_text) t (numbered_back d w) in
-    let f : Signal → Signal = λ s. unplaced (signal_in to s) in
-    unplaced_placed f (λ s p. refl) (declared_places false (pieces_of d)) (signals_of (text_in from t))
-    ∙ ap (map f) (signals_of_in from t)
-    ∙ sym (map_after unplaced (signal_in to) (map (signal_in from) (signals_of t)))
-    ∙ ap (map unplaced) (b.signals ∙ signals_of-text_of limits d w)
-    ∙ twice_unplaced (ports_in d.signals) (stores_in d.signals)
+-- what is read back for a declaration, its place apart
+along_signals : (same : ℕ → ℕ → Type 0) (from : ℕ → ℕ) (places : List ℕ) (ss : List Signal) → AllFormed (OfSignal (λ n. same (from n) n)) (map unplaced ss) → Along (IsAlikeSignal same) (with_places places (map (signal_in from) (map unplaced ss))) ss
+along_signals same from places [] h = subst (λ xs. Along (IsAlikeSignal same) xs []) (sym (none_placed places)) ends
   where
-    unplaced_all : (ss : List Signal) → map unplaced (map unplaced ss) ≡ map unplaced ss
-    unplaced_all [] = refl
-    unplaced_all (s ∷ ss) = ap (λ zs. unplaced s ∷ zs) (unplaced_all ss)
-    twice_unplaced : (xs ys : List Signal) → map unplaced (map unplaced xs ++ map unplaced ys) ≡ map unplaced xs ++ map unplaced ys
-    twice_unplaced [] ys = unplaced_all ys
-    twice_unplaced (x ∷ xs) ys = ap (λ zs. unplaced x ∷ zs) (twice_unplaced xs ys)
+    none_placed : (ps : List ℕ) → with_places ps [] ≡ []
+    none_placed [] = refl
+    none_placed (p ∷ ps) = refl
+along_signals same from [] (s ∷ ss) h = goes (record { name = h.0; kind = refl; signed = refl; ranged = refl; width = refl }) (along_signals same from [] ss h.1)
+along_signals same from (p ∷ places) (s ∷ ss) h = goes (record { name = h.0; kind = refl; signed = refl; ranged = refl; width = refl }) (along_signals same from places ss h.1)
 
 map_joined : {A B : Type 0} (f : A → B) (xs ys : List A) → map f (xs ++ ys) ≡ map f xs ++ map f ys
 map_joined f [] ys = refl
 map_joined f (x ∷ xs) ys = ap (λ zs. f x ∷ zs) (map_joined f xs ys)
 
+-- the module's declarations as the text has them: the ports first
+abbrev pub ordered_signals : Design → List Signal
+ordered_signals d = ports_in d.signals ++ stores_in d.signals
+
+pub signals_back : (d : Design) → IsWritable limits d → Along (IsAlikeSignal (SameName (names_of d) d.names)) (read_back d).signals (ordered_signals d)
+signals_back d w =
+    let from : ℕ → ℕ = number_found d in
+    let same : ℕ → ℕ → Type 0 = SameName (names_of d) d.names in
+    let t : Text = text_of d in
+    let places : List ℕ = declared_places false (pieces_of d) in
+    let holds = of_text (λ n. same (from n) n) (number_in d.names clock_text) t (names_back d w) in
+    let e : signals_of t ≡ map unplaced (ordered_signals d) = signals_of-text_of limits d w ∙ sym (map_joined unplaced (ports_in d.signals) (stores_in d.signals)) in
+    subst (λ ss. Along (IsAlikeSignal same) (with_places places ss) (ordered_signals d)) (sym (signals_of_in from t ∙ ap (map (signal_in from)) e))
+    (along_signals same from places (ordered_signals d) (subst (AllFormed (OfSignal (λ n. same (from n) n))) e holds.signals))
+
 pub alike_back : (d : Design) → IsWritable limits d → IsAlike (read_back d) d
 alike_back d w =
-    let to : ℕ → ℕ = renumbered (read_back d) d in
     let from : ℕ → ℕ = number_found d in
+    let same : ℕ → ℕ → Type 0 = SameName (names_of d) d.names in
     let t : Text = text_of d in
-    let b = text_back from to (number_in d.names clock_text) t (numbered_back d w) in
+    let holds = of_text (λ n. same (from n) n) (number_in d.names clock_text) t (names_back d w) in
+    let along = signals_back d w in
+    let order = parted (λ s. is_port s.kind) d.signals in
+    let blocks = blocks_of-items_of d in
     record {
-      name_is = b.name;
-      signals_are =
-          let e : map unplaced (ports_in d.signals ++ stores_in d.signals) ≡ map (λ s. unplaced (signal_in to s)) (read_back d).signals = map_joined unplaced (ports_in d.signals) (stores_in d.signals) ∙ sym (signals_back d w) in
-          subst (λ ss. IsPermutation ss (map unplaced d.signals)) e
-          (IsPermutation-map unplaced (ports_in d.signals ++ stores_in d.signals) d.signals (IsPermutation-sym d.signals (ports_in d.signals ++ stores_in d.signals) (IsPermutation-filter_both (λ s. is_port s.kind) (λ s. not (is_port s.kind)) (λ s. refl) d.signals)));
-      assigns_are = ap (map (assignment_in to)) (assigns_of_in from (items_of d)) ∙ b.assigns ∙ assigns_of-items_of limits d w;
-      blocks_are =
-          sym (map_after unblocked (action_in to) (read_back d).blocks)
-          ∙ ap (λ xs. map unblocked (map (action_in to) xs)) (blocks_of_in from (items_of d))
-          ∙ ap (map unblocked) (b.blocks ∙ blocks_of-items_of d)
-          ∙ unblocked_blocks limits (length d.names) d.blocks w.blocks;
+      name = holds.name;
+      there = order.there;
+      back = order.back;
+      there_back = order.there_back;
+      back_there = order.back_there;
+      signals = λ k s e. let x = along_get (IsAlikeSignal same) (read_back d).signals (ordered_signals d) along k s e in (x.0, order.gets k ∙ x.1, x.2);
+      no_others = λ k s e.
+          let there : slice_get (ordered_signals d) (order.back k) ≡ Some s = sym (order.gets (order.back k)) ∙ ap (slice_get d.signals) (order.back_there k) ∙ e in
+          along_from (IsAlikeSignal same) (read_back d).signals (ordered_signals d) along (order.back k) s there;
+      assigns =
+          let e = assigns_of-items_of limits d w in
+          subst (λ xs. AreAlikeAssigns same xs d.assigns) (sym (assigns_of_in from (items_of d) ∙ ap (map (assignment_in from)) e)) (alike_assigns same from d.assigns (subst (AllFormed (OfAssignment (λ n. same (from n) n))) e holds.assigns));
+      blocks =
+          subst (λ xs. AreAlikeBlocks same xs d.blocks) (sym (blocks_of_in from (items_of d) ∙ ap (map (action_in from)) blocks))
+          (alike_blocks same from (λ a. action_of (statement_of a)) plain_action-statement d.blocks (subst (AllFormed (OfAction (λ n. same (from n) n))) blocks holds.blocks));
     }

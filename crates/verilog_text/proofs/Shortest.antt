@@ -6,7 +6,7 @@ use Rattle.verilog_tree.specs.declared.tree.Op.{Op}
 use Rattle.verilog_tree.specs.declared.tree.Op.TheVariants as op
 use Rattle.verilog_tree.specs.Tree as tree
 use Rattle.verilog_tree.specs.Tree.{Tree, Trees, Action, Actions}
-use Rattle.verilog_tree.specs.Alike.{alone, unblocked, all_unblocked}
+use Rattle.verilog_tree.specs.Alike.{plain_block, plain_action, plain_actions}
 use Rattle.verilog_text.specs.Grammar.{Source, Sources, Bracketed, no_member, member, tree_of, trees_of, rank, looseness, is_plain, IsGrouped, HasMember, AreGrouped}
 use Rattle.verilog_text.specs.Statements.{Statement, Statements, Block, none, more, action_of, actions_of, openness, IsParted, AreParted}
 use Rattle.verilog_text.specs.Shortest.{within, spelling, spellings, closed, statement_of, statements_of, HasMembers, IsFormed, AreFormed, IsFormedAction, AreFormedActions}
@@ -92,17 +92,17 @@ mutual
   parted_statements n tree.no_action f = tt
   parted_statements n (tree.action a rest) f = (parted_statement n a f.0, parted_statements n rest f.1)
 
-unblocked_closed : (s : Statement) → unblocked (action_of (closed s)) ≡ unblocked (action_of s)
-unblocked_closed s = cond_both (nat_lt (openness s) 1) s (Block (more s none)) (λ x. unblocked (action_of x) ≡ unblocked (action_of s)) (λ e. refl) (λ e. refl)
+plain_action-closed : (s : Statement) → plain_action (action_of (closed s)) ≡ plain_action (action_of s)
+plain_action-closed s = cond_both (nat_lt (openness s) 1) s (Block (more s none)) (λ x. plain_action (action_of x) ≡ plain_action (action_of s)) (λ e. refl) (λ e. refl)
 
 mutual
   -- the writing has the same tree, but for blocks of one statement
-  pub unblocked_statement : (a : Action) → unblocked (action_of (statement_of a)) ≡ unblocked a
-  unblocked_statement (tree.Block members) = ap alone (unblocked_statements members)
-  unblocked_statement (tree.When c t) = let x = tree_of-spelling c in let y = unblocked_statement t in cc (x, y)
-  unblocked_statement (tree.Either c t e) = let x = tree_of-spelling c in let y = unblocked_closed (statement_of t) ∙ unblocked_statement t in let z = unblocked_statement e in cc (x, y, z)
-  unblocked_statement (tree.Give r v) = ap (tree.Give r) (tree_of-spelling v)
+  pub plain_action-statement : (a : Action) → plain_action (action_of (statement_of a)) ≡ plain_action a
+  plain_action-statement (tree.Block members) = ap plain_block (plain_actions-statements members)
+  plain_action-statement (tree.When c t) = let x = tree_of-spelling c in let y = plain_action-statement t in cc (x, y)
+  plain_action-statement (tree.Either c t e) = let x = tree_of-spelling c in let y = plain_action-closed (statement_of t) ∙ plain_action-statement t in let z = plain_action-statement e in cc (x, y, z)
+  plain_action-statement (tree.Give r v) = ap (tree.Give r) (tree_of-spelling v)
 
-  unblocked_statements : (xs : Actions) → all_unblocked (actions_of (statements_of xs)) ≡ all_unblocked xs
-  unblocked_statements tree.no_action = refl
-  unblocked_statements (tree.action a rest) = let x = unblocked_statement a in let y = unblocked_statements rest in cc (x, y)
+  plain_actions-statements : (xs : Actions) → plain_actions (actions_of (statements_of xs)) ≡ plain_actions xs
+  plain_actions-statements tree.no_action = refl
+  plain_actions-statements (tree.action a rest) = let x = plain_action-statement a in let y = plain_actions-statements rest in cc (x, y)
