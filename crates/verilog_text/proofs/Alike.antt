@@ -1,14 +1,13 @@
 -- A module with other numbers for its names is alike, where the names have the same texts.
-use Rattle.std.proofs.Common.{◌≡◌, ℕ, zero, suc, ◌+◌, Bool, true, false, cond, List, [], ◌∷◌, ◌++◌, Some, None, refl, sym, ap, ◌∙◌, subst}
+use Rattle.std.proofs.Common.{◌≡◌, ℕ, zero, suc, Bool, true, false, cond, List, [], ◌∷◌, ◌++◌, Some, refl, sym, ap, ◌∙◌, subst}
 use Rattle.std.specs.Prelude.{map, filter, not, slice_get}
-use Rattle.verilog_tree.specs.declared.tree.Signal.{Signal}
 use Rattle.verilog_tree.specs.Tree as tree
 use Rattle.verilog_tree.specs.Tree.{Tree, Trees, Action, Actions, Assignment, Design}
-use Rattle.verilog_tree.specs.Renaming.{tree_in, trees_in, action_in, actions_in, assignment_in, signal_in}
-use Rattle.verilog_tree.specs.Alike.{SameName, IsAlikeTree, AreAlikeTrees, plain_block, plain_action, plain_actions, IsAlikeAction, AreAlikeActions, AreAlikeAssigns, AreAlikeBlocks, IsAlikeSignal}
-use Rattle.verilog_text.specs.Reading.{with_places}
+use Rattle.verilog_tree.specs.Renaming.{tree_in, trees_in, action_in, actions_in, assignment_in}
+use Rattle.verilog_tree.specs.Alike.{IsAlikeTree, AreAlikeTrees, plain_block, plain_action, plain_actions, IsAlikeAction, AreAlikeActions, AreAlikeAssigns, AreAlikeBlocks}
 use Rattle.verilog_text.specs.Shortest.{AllFormed}
-use Rattle.verilog_text.proofs.Holds.{OfTree, OfTrees, OfAction, OfActions, OfAssignment, OfSignal}
+use Rattle.verilog_text.specs.Order.{Along, ends, goes}
+use Rattle.verilog_text.proofs.Holds.{OfTree, OfTrees, OfAction, OfActions, OfAssignment}
 
 module _ (same : ℕ → ℕ → Type 0) (from : ℕ → ℕ) where
   abbrev Kept : ℕ → Type 0
@@ -166,11 +165,6 @@ parted_more p x xs false e rest =
 pub parted : {X : Type 0} (p : X → Bool) (xs : List X) → SameElements (filter p xs ++ filter (λ x. not (p x)) xs) xs
 parted p [] = identity []
 parted p (x ∷ xs) = parted_more p x xs (p x) refl (parted p xs)
-
--- two lists whose elements are related one by one
-pub data Along {X : Type 0} (R : X → X → Type 0) : List X → List X → Type 0 where
-  ends : Along R [] []
-  goes : {x y : X} {xs ys : List X} → R x y → Along R xs ys → Along R (x ∷ xs) (y ∷ ys)
 
 pub along_get : {X : Type 0} (R : X → X → Type 0) (xs ys : List X) → Along R xs ys → (k : ℕ) (x : X) → slice_get xs k ≡ Some x → (y : X) × (slice_get ys k ≡ Some y) × R x y
 along_get R [] [] ends k x e = absurd (cc)

@@ -1,5 +1,5 @@
 -- What holds of each name among the tokens of a text holds of each name in what the text stands for.
-use Rattle.std.proofs.Common.{◌≡◌, ℕ, Bool, true, false, List, [], ◌∷◌, ◌++◌, refl, sym, ap, ◌∙◌}
+use Rattle.std.proofs.Common.{ℕ, Bool, true, false, List, [], ◌∷◌, ◌++◌}
 use Rattle.std.specs.Prelude.{map, Option, Some, None}
 use Rattle.verilog_tree.specs.declared.tree.Kind.{Kind}
 use Rattle.verilog_tree.specs.declared.tree.Signal.{Signal}
@@ -12,7 +12,7 @@ use Rattle.verilog_text.specs.declared.token.Word.{Word}
 use Rattle.verilog_text.specs.declared.token.Token.{Token}
 use Rattle.verilog_text.specs.Grammar.{Source, Sources, Named, BitOf, PartOf, Number, Based, Bracketed, Joined, Inverted, Operated, Shifted, Chosen, no_member, member, written, written_members, tree_of, trees_of}
 use Rattle.verilog_text.specs.Statements.{Statement, Statements, Block, Guarded, Forked, Given, none, more, statement_text, statements_text, action_of, actions_of}
-use Rattle.verilog_text.specs.Text.{Text, Shape, Store, FreshPort, Port, Fresh, Same, Item, Declared, Assigned, Clocked, range_text, if_word, shape_text, fresh_text, ports_text, names_text, item_text, items_text, tokens_of, direction_kind, store_kind, signal_of, port_signals, item_signals, items_signals, signals_of, item_assigns, assigns_of, item_blocks, blocks_of}
+use Rattle.verilog_text.specs.Text.{Text, Shape, FreshPort, Port, Fresh, Same, Item, Declared, Assigned, Clocked, range_text, if_word, shape_text, fresh_text, ports_text, names_text, items_text, tokens_of, store_kind, signal_of, port_signals, items_signals, signals_of, assigns_of, blocks_of}
 use Rattle.verilog_text.specs.Shortest.{AllFormed}
 use Rattle.verilog_text.proofs.Numbering.{OfNames}
 

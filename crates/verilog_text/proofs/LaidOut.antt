@@ -1,15 +1,14 @@
 -- Tokens that are laid out are read back, each at its place.
-use Rattle.std.proofs.Common.{◌≡◌, ℕ, zero, suc, ◌+◌, ◌-◌, ◌<◌, ◌≤◌, Bool, true, false, cond, List, [], ◌∷◌, ◌++◌, length, take, drop, Some, None, refl, sym, ap, ◌∙◌, subst, arith, inl, inr, append_assoc, length-append}
+use Rattle.std.proofs.Common.{◌≡◌, ℕ, zero, suc, ◌+◌, ◌-◌, ◌<◌, ◌≤◌, Bool, true, false, List, [], ◌∷◌, ◌++◌, length, take, Some, None, refl, sym, ap, ◌∙◌, subst, arith, inl, inr, length-append}
 use Rattle.std.specs.Prelude.{◌||◌, codes}
 use Rattle.std.proofs.lemmas.Bool.{cases_Bool, cond-true, cond-false}
 use Rattle.std.proofs.Math.Seq.{take-append_seam, take-append-add, drop-append_seam}
-use Rattle.std.specs.List.{list_all}
 use Rattle.verilog_text.specs.declared.token.Mark.TheVariants as mark
 use Rattle.verilog_text.specs.declared.token.Token.{Token}
 use Rattle.verilog_text.specs.declared.token.Token.TheVariants as token
-use Rattle.verilog_text.specs.Lexer.{Piece, Gap, Fixed, is_blank, piece_of, IsLongest, Placed, Scans, ended, gap, piece}
+use Rattle.verilog_text.specs.Lexer.{Piece, Gap, piece_of, IsLongest, Placed, Scans, ended, gap, piece}
 use Rattle.verilog_text.specs.Layout.{token_text, piece_for, IsSpelled, AreSpelled, is_opening, is_closing, is_last, ends_line, between, behind, laid_out, placed, heading}
-use Rattle.verilog_text.proofs.Spelled.{End, BySpace, ByLine, ByClose, ByBracket, ByComma, BySemicolon, end_byte, IsSpelling, name_spelling, keyword_spelling, mark_spelling, op_spelling, shift_spelling, opens_alone}
+use Rattle.verilog_text.proofs.Spelled.{BySpace, ByLine, ByClose, ByBracket, ByComma, BySemicolon, IsSpelling, name_spelling, keyword_spelling, mark_spelling, op_spelling, shift_spelling, opens_alone}
 use Rattle.verilog_text.proofs.Numerals.{decimal_spelling, based_spelling}
 
 pub spelling_of : (names : List (List ℕ)) (t : Token) → IsSpelled names t → IsSpelling (token_text names t) (piece_for names t)

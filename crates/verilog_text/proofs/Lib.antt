@@ -8,3 +8,5 @@ pub mod Numbering
 pub mod Holds
 pub mod Alike
 pub mod RoundTrip
+pub mod Writings
+pub mod InOrder

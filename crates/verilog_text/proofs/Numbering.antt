@@ -8,8 +8,8 @@ use Rattle.verilog_tree.specs.Renaming.{name_in, number_in, AreDistinct}
 use Rattle.verilog_text.specs.declared.token.Token.{Token}
 use Rattle.verilog_text.specs.declared.token.Token.TheVariants as token
 use Rattle.verilog_text.specs.Lexer.{Piece, Gap, NameText, Fixed, OutsidePiece, UnreadablePiece, Placed}
-use Rattle.verilog_text.specs.Names.{with_name, with_piece, names_behind, Lexeme, Inside, lexeme_in}
-use Rattle.verilog_text.specs.Layout.{token_text, piece_for, behind, IsName, IsSpelled, AreSpelled, placed}
+use Rattle.verilog_text.specs.Names.{with_name, with_piece, names_behind, Inside, lexeme_in}
+use Rattle.verilog_text.specs.Layout.{behind, IsName, AreSpelled, placed}
 use Rattle.verilog_text.specs.Renamed.{token_in}
 
 -- a name that was found has its text

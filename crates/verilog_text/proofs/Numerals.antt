@@ -93,7 +93,7 @@ decimal_spelling d h single =
     let number : ℕ → Bool → Piece = λ v s. Fixed (token.Number (record { value = v; is_single = s })) in
     let value = decimal_value n low in
     let piece : decimal_piece (decimal n) ≡ Fixed (token.Number d) =
-        ap (λ v. cond (nat_lt v (2 ^ 31)) (number v (is_one (decimal n))) UnreadablePiece) value ∙ cond-true _ _ _ (lt-ltb n (2 ^ 31) h) ∙ ap (number n) (is_one-decimal n low ∙ sym single) in
+    ap (λ v. cond (nat_lt v (2 ^ 31)) (number v (is_one (decimal n))) UnreadablePiece) value ∙ cond-true _ _ _ (lt-ltb n (2 ^ 31) h) ∙ ap (number n) (is_one-decimal n low ∙ sym single) in
     record {
       some = (decimal_is_IsNumeral n low).0.0;
       alone = ap piece_of (sym (append-nil (decimal n))) ∙ number_at n [] low refl ∙ ap Some piece;

@@ -1,9 +1,7 @@
 -- Texts with other numbers for their names: all but the names is as before.
-use Rattle.std.proofs.Common.{◌≡◌, ℕ, ◌+◌, ◌<◌, ◌≤◌, Bool, true, false, List, [], ◌∷◌, ◌++◌, refl, sym, ap, ◌∙◌, subst, arith}
-use Rattle.std.specs.Prelude.{map, max, Option, Some, None}
-use Rattle.verilog_tree.specs.declared.tree.Op.{Op}
+use Rattle.std.proofs.Common.{◌≡◌, ℕ, ◌+◌, Bool, true, false, List, [], ◌∷◌, ◌++◌, refl, sym, ap, ◌∙◌, arith}
+use Rattle.std.specs.Prelude.{map, Option, Some, None}
 use Rattle.verilog_tree.specs.declared.tree.Op.TheVariants.{LessEqual}
-use Rattle.verilog_tree.specs.declared.tree.Signal.{Signal}
 use Rattle.verilog_tree.specs.Tree as tree
 use Rattle.verilog_tree.specs.Tree.{Tree, Trees, Action, Actions, Assignment}
 use Rattle.verilog_tree.specs.Renaming.{tree_in, trees_in, action_in, actions_in, assignment_in, signal_in}
@@ -14,7 +12,7 @@ use Rattle.verilog_text.specs.declared.token.Word.{Word}
 use Rattle.verilog_text.specs.declared.token.Word.TheVariants as word
 use Rattle.verilog_text.specs.declared.token.Token.{Token}
 use Rattle.verilog_text.specs.declared.token.Token.TheVariants as token
-use Rattle.verilog_text.specs.Grammar.{Source, Sources, Named, BitOf, PartOf, Number, Based, Bracketed, Joined, Inverted, Operated, Shifted, Chosen, no_member, member, marked, written, written_members, tree_of, trees_of, rank, looseness, is_plain, IsGrouped, HasMember, AreGrouped, depth, depths, operators, operators_in, Limits}
+use Rattle.verilog_text.specs.Grammar.{Source, Sources, Named, BitOf, PartOf, Number, Based, Bracketed, Joined, Inverted, Operated, Shifted, Chosen, no_member, member, marked, written, written_members, tree_of, trees_of, looseness, is_plain, IsGrouped, HasMember, AreGrouped, depth, depths, operators, operators_in, Limits}
 use Rattle.verilog_text.specs.Statements.{Statement, Statements, Block, Guarded, Forked, Given, none, more, worded, if_text, statement_text, statements_text, action_of, actions_of, openness, IsParted, AreParted, height, heights, IsShort, AreShort}
 use Rattle.verilog_text.specs.Text.{Text, Shape, Store, FreshPort, Port, Fresh, Same, Item, Declared, Assigned, Clocked, range_text, if_word, shape_text, direction_word, fresh_text, port_text, ports_text, names_text, store_word, item_text, items_text, tokens_of, IsItem, AreItems, direction_kind, store_kind, signal_of, fresh_signal, port_signals, item_signals, items_signals, signals_of, item_assigns, assigns_of, item_blocks, blocks_of}
 use Rattle.verilog_text.specs.Renamed.{token_in, source_in, members_in, statement_in, statements_in, fresh_in, port_in, item_in, text_in}

@@ -1,31 +1,32 @@
 -- The bytes of a writing read as a module that is alike.
-use Rattle.std.proofs.Common.{◌≡◌, ℕ, zero, suc, ◌+◌, ◌-◌, ◌<◌, ◌≤◌, ◌^◌, Bool, true, false, List, [], ◌∷◌, ◌++◌, length, refl, sym, ap, ◌∙◌, subst, arith, append_assoc}
-use Rattle.std.specs.Prelude.{map, filter, not, slice_get, Option, Some, None}
+use Rattle.std.proofs.Common.{◌≡◌, ℕ, zero, suc, ◌+◌, ◌<◌, ◌≤◌, Bool, true, false, List, [], ◌∷◌, ◌++◌, length, refl, sym, ap, ◌∙◌, subst, arith, append_assoc}
+use Rattle.std.specs.Prelude.{map, filter, not, slice_get, Option, Some}
 use Rattle.std.proofs.lemmas.List.{append-nil}
 use Rattle.std.proofs.lemmas.Bool.{cond_both}
 use Rattle.verilog_tree.specs.declared.tree.Kind.{Kind}
 use Rattle.verilog_tree.specs.declared.tree.Kind.TheVariants as kind
 use Rattle.verilog_tree.specs.declared.tree.Signal.{Signal}
-use Rattle.verilog_tree.specs.Tree.{Tree, Action, Assignment, Design}
-use Rattle.verilog_tree.specs.Renaming.{name_in, number_in, tree_in, action_in, assignment_in, signal_in}
+use Rattle.verilog_tree.specs.Tree.{Action, Assignment, Design}
+use Rattle.verilog_tree.specs.Renaming.{name_in, number_in, action_in, assignment_in, signal_in}
 use Rattle.verilog_tree.specs.Alike.{SameName, AreAlikeAssigns, AreAlikeBlocks, IsAlikeSignal, IsAlike}
 use Rattle.verilog_text.specs.declared.token.Decimal.{Decimal}
 use Rattle.verilog_text.specs.declared.token.Token.{Token}
-use Rattle.verilog_text.specs.Grammar.{depth, operators, tree_of, Limits, limits}
+use Rattle.verilog_text.specs.Grammar.{Limits, limits}
 use Rattle.verilog_text.specs.Statements.{action_of}
-use Rattle.verilog_text.specs.Text.{Text, Shape, Direction, Item, tokens_of, clock_text, AreItems, direction_kind, store_kind, is_ranged, width_of, signal_of, FreshPort, fresh_signal, port_signals, item_signals, items_signals, signals_of, item_assigns, assigns_of, item_blocks, blocks_of}
+use Rattle.verilog_text.specs.Text.{Text, Item, tokens_of, clock_text, AreItems, direction_kind, store_kind, is_ranged, width_of, signal_of, FreshPort, fresh_signal, port_signals, item_signals, items_signals, signals_of, item_assigns, assigns_of, item_blocks, blocks_of}
 use Rattle.verilog_text.specs.Lexer.{Placed}
 use Rattle.verilog_text.specs.Names.{names_behind, Inside}
 use Rattle.verilog_text.specs.Reading.{declared_places, with_places, design_of, Reads}
-use Rattle.verilog_text.specs.Layout.{AreSpelled, laid_out, placed, heading}
-use Rattle.verilog_text.specs.Renamed.{item_in, text_in}
-use Rattle.verilog_text.specs.Shortest.{spelling, statement_of, range_of, shape_of, is_port, direction_of, store_of, fresh_of, port_of, declared_of, assigned_of, clocked_of, ports_in, stores_in, items_of, first_port, other_ports, text_of, IsFormedAssignment, IsFormedBlock, IsFormedSignal, AllFormed, IsWritable}
+use Rattle.verilog_text.specs.Layout.{laid_out, placed, heading}
+use Rattle.verilog_text.specs.Renamed.{text_in}
+use Rattle.verilog_text.specs.Shortest.{statement_of, range_of, shape_of, is_port, direction_of, store_of, fresh_of, port_of, declared_of, assigned_of, clocked_of, ports_in, stores_in, items_of, first_port, other_ports, text_of, IsFormedAssignment, IsFormedBlock, IsFormedSignal, AllFormed, IsWritable}
+use Rattle.verilog_text.specs.Order.{Along, ends, goes, ordered_signals, unplaced}
 use Rattle.verilog_text.proofs.LaidOut.{text_reads_back}
 use Rattle.verilog_text.proofs.Shortest.{tree_of-spelling, grouped_spelling, parted_statement, plain_action-statement}
 use Rattle.verilog_text.proofs.Renamed.{tokens_of_in, items_good_in, signals_of_in, assigns_of_in, blocks_of_in}
-use Rattle.verilog_text.proofs.Numbering.{name_of_number, number_of_name, OfNames, each, found, lexemes_of_placed}
+use Rattle.verilog_text.proofs.Numbering.{name_of_number, OfNames, each, found, lexemes_of_placed}
 use Rattle.verilog_text.proofs.Holds.{OfSignal, OfAssignment, OfAction, of_text}
-use Rattle.verilog_text.proofs.Alike.{SameElements, parted, Along, ends, goes, along_get, along_from, alike_assigns, alike_blocks}
+use Rattle.verilog_text.proofs.Alike.{parted, along_get, along_from, alike_assigns, alike_blocks}
 use Rattle.verilog_text.proofs.Writable.{text_spelled, all_filtered}
 
 -- ---- the writing is within the grammar
@@ -117,10 +118,6 @@ blocks_of-items_of d =
     ∙ blocks_of-join (map assigned_of d.assigns) (map clocked_of d.blocks)
     ∙ ap (λ zs. zs ++ blocks_of (map clocked_of d.blocks)) (no_blocks_assigned d.assigns)
     ∙ blocks_clocked d.blocks
-
--- a declaration wherever it stands
-abbrev pub unplaced : Signal → Signal
-unplaced s = record s { place = 0 }
 
 -- a declaration is read as it was, but for its place
 record IsShaped (range : Option Decimal) (ranged : Bool) (width : ℕ) : Type 0 where
@@ -246,10 +243,6 @@ along_signals same from (p ∷ places) (s ∷ ss) h = goes (record { name = h.0;
 map_joined : {A B : Type 0} (f : A → B) (xs ys : List A) → map f (xs ++ ys) ≡ map f xs ++ map f ys
 map_joined f [] ys = refl
 map_joined f (x ∷ xs) ys = ap (λ zs. f x ∷ zs) (map_joined f xs ys)
-
--- the module's declarations as the text has them: the ports first
-abbrev pub ordered_signals : Design → List Signal
-ordered_signals d = ports_in d.signals ++ stores_in d.signals
 
 pub signals_back : (d : Design) → IsWritable limits d → Along (IsAlikeSignal (SameName (names_of d) d.names)) (read_back d).signals (ordered_signals d)
 signals_back d w =

@@ -1,5 +1,5 @@
 -- The writing with the fewest brackets is a text of its tree.
-use Rattle.std.proofs.Common.{◌≡◌, ℕ, ◌+◌, ◌<◌, ◌≤◌, Bool, true, false, List, [], ◌∷◌, refl, ap, ◌∙◌, arith}
+use Rattle.std.proofs.Common.{◌≡◌, ℕ, ◌+◌, ◌<◌, refl, ap, ◌∙◌, arith}
 use Rattle.std.specs.Prelude.{nat_lt}
 use Rattle.std.proofs.lemmas.Bool.{ltb-true, cond_both}
 use Rattle.verilog_tree.specs.declared.tree.Op.{Op}
@@ -7,8 +7,8 @@ use Rattle.verilog_tree.specs.declared.tree.Op.TheVariants as op
 use Rattle.verilog_tree.specs.Tree as tree
 use Rattle.verilog_tree.specs.Tree.{Tree, Trees, Action, Actions}
 use Rattle.verilog_tree.specs.Alike.{plain_block, plain_action, plain_actions}
-use Rattle.verilog_text.specs.Grammar.{Source, Sources, Bracketed, no_member, member, tree_of, trees_of, rank, looseness, is_plain, IsGrouped, HasMember, AreGrouped}
-use Rattle.verilog_text.specs.Statements.{Statement, Statements, Block, none, more, action_of, actions_of, openness, IsParted, AreParted}
+use Rattle.verilog_text.specs.Grammar.{Source, Bracketed, tree_of, trees_of, rank, looseness, is_plain, IsGrouped, HasMember, AreGrouped}
+use Rattle.verilog_text.specs.Statements.{Statement, Block, none, more, action_of, actions_of, openness, IsParted, AreParted}
 use Rattle.verilog_text.specs.Shortest.{within, spelling, spellings, closed, statement_of, statements_of, HasMembers, IsFormed, AreFormed, IsFormedAction, AreFormedActions}
 
 pub rank_bounds : (o : Op) → (0 < rank o) × (rank o < 8)

@@ -1,23 +1,21 @@
 -- Each token of a writing has bytes.
-use Rattle.std.proofs.Common.{◌≡◌, ℕ, zero, suc, ◌+◌, ◌-◌, ◌<◌, ◌≤◌, ◌^◌, Bool, true, false, List, [], ◌∷◌, ◌++◌, length, refl, arith}
-use Rattle.std.specs.Prelude.{map, filter, not, nat_lt, Option, Some, None}
+use Rattle.std.proofs.Common.{ℕ, zero, suc, ◌+◌, ◌<◌, ◌≤◌, ◌^◌, Bool, true, false, List, [], ◌∷◌, ◌++◌, length, refl, arith}
+use Rattle.std.specs.Prelude.{map, filter, not, nat_lt}
 use Rattle.std.proofs.lemmas.Bool.{cond_both}
-use Rattle.verilog_tree.specs.declared.tree.Op.{Op}
 use Rattle.verilog_tree.specs.declared.tree.Signal.{Signal}
 use Rattle.verilog_tree.specs.Tree as tree
 use Rattle.verilog_tree.specs.Tree.{Tree, Trees, Action, Actions, Assignment, Design}
 use Rattle.verilog_tree.specs.Renaming.{name_in, number_in}
-use Rattle.verilog_text.specs.declared.token.Decimal.{Decimal}
 use Rattle.verilog_text.specs.declared.token.Mark.{Mark}
 use Rattle.verilog_text.specs.declared.token.Mark.TheVariants as mark
 use Rattle.verilog_text.specs.declared.token.Word.{Word}
 use Rattle.verilog_text.specs.declared.token.Word.TheVariants as word
 use Rattle.verilog_text.specs.declared.token.Token.{Token}
-use Rattle.verilog_text.specs.Grammar.{Source, Sources, Bracketed, no_member, member, written, written_members, looseness, rank, Limits}
-use Rattle.verilog_text.specs.Statements.{Statement, Statements, Block, none, more, statement_text, worded, statements_text, if_text, openness}
-use Rattle.verilog_text.specs.Text.{Shape, FreshPort, Port, Fresh, Item, range_text, if_word, shape_text, fresh_text, ports_text, item_text, items_text, tokens_of, clock_text}
-use Rattle.verilog_text.specs.Layout.{plain, IsName, IsSpelled, AreSpelled}
-use Rattle.verilog_text.specs.Shortest.{within, spelling, spellings, closed, statement_of, statements_of, range_of, shape_of, fresh_of, port_of, declared_of, assigned_of, clocked_of, ports_in, stores_in, items_of, first_port, other_ports, text_of, HasMembers, IsFormed, AreFormed, IsFormedAction, AreFormedActions, IsFormedAssignment, IsFormedBlock, IsFormedSignal, AllFormed, is_port, IsWritable}
+use Rattle.verilog_text.specs.Grammar.{Source, Bracketed, written, written_members, looseness, rank, Limits}
+use Rattle.verilog_text.specs.Statements.{Statement, Block, none, more, statement_text, worded, statements_text, if_text, openness}
+use Rattle.verilog_text.specs.Text.{Item, range_text, if_word, shape_text, fresh_text, ports_text, items_text, tokens_of, clock_text}
+use Rattle.verilog_text.specs.Layout.{IsName, AreSpelled}
+use Rattle.verilog_text.specs.Shortest.{within, spelling, spellings, closed, statement_of, statements_of, range_of, shape_of, fresh_of, port_of, declared_of, assigned_of, clocked_of, ports_in, stores_in, first_port, other_ports, text_of, IsFormed, AreFormed, IsFormedAction, AreFormedActions, IsFormedAssignment, IsFormedBlock, IsFormedSignal, AllFormed, is_port, IsWritable}
 
 pub name_at : (names : List (List ℕ)) (n : ℕ) → AllFormed IsName names → n < length names → IsName (name_in names n)
 name_at [] n all h = absurd (omega arith)
@@ -96,11 +94,11 @@ module _ (names : List (List ℕ)) (good : AllFormed IsName names) where
     goes_declared [] xs f g rest h = g rest h
     goes_declared (s ∷ ss) xs f g rest h = (tt, goes_shape s f.0 _ (named s.name f.0.0, (tt, goes_declared ss xs f.1 g rest h)))
 
-    goes_assigned : (ss : List Assignment) (xs : List Item) → AllFormed (IsFormedAssignment limits (length names)) ss → Goes (items_text clock xs) → Goes (items_text clock (map assigned_of ss ++ xs))
+    pub goes_assigned : (ss : List Assignment) (xs : List Item) → AllFormed (IsFormedAssignment limits (length names)) ss → Goes (items_text clock xs) → Goes (items_text clock (map assigned_of ss ++ xs))
     goes_assigned [] xs f g rest h = g rest h
     goes_assigned (a ∷ ss) xs f g rest h = (tt, (named a.target f.0.0, (tt, goes a.value f.0.1 _ (tt, goes_assigned ss xs f.1 g rest h))))
 
-    goes_clocked : (ss : List Action) → AllFormed (IsFormedBlock limits (length names)) ss → Goes (items_text clock (map clocked_of ss))
+    pub goes_clocked : (ss : List Action) → AllFormed (IsFormedBlock limits (length names)) ss → Goes (items_text clock (map clocked_of ss))
     goes_clocked [] f rest h = h
     goes_clocked (a ∷ ss) f rest h = (tt, (tt, (tt, (tt, (named clock ticks, (tt, goes_statement a f.0.0 _ (goes_clocked ss f.1 rest h)))))))
 
@@ -115,5 +113,5 @@ text_spelled limits d w =
     let stores = all_filtered (IsFormedSignal (length d.names)) (λ s. not (is_port s.kind)) d.signals w.signals in
     let clock : ℕ = number_in d.names clock_text in
     let items = goes_declared d.names w.names limits clock w.clock (stores_in d.signals) _ stores
-        (goes_assigned d.names w.names limits clock w.clock d.assigns _ w.assigns (goes_clocked d.names w.names limits clock w.clock d.blocks w.blocks)) (worded word.EndModule []) (tt, tt) in
+    (goes_assigned d.names w.names limits clock w.clock d.assigns _ w.assigns (goes_clocked d.names w.names limits clock w.clock d.blocks w.blocks)) (worded word.EndModule []) (tt, tt) in
     (tt, (named d.names w.names d.name w.name, (tt, goes_first d.names w.names (ports_in d.signals) w.port ports _ (tt, (tt, items)))))

@@ -1,9 +1,8 @@
 -- The bytes that tokens are written with.
-use Rattle.std.specs.Prelude.{◌≡◌, ℕ, ◌+◌, ◌<◌, ◌≤◌, ◌^◌, ◌&&◌, ◌||◌, not, Bool, true, false, List, [], ◌∷◌, ◌++◌, length, None, slice_index_or, nat_lt, codes, if◌then◌else◌}
+use Rattle.std.specs.Prelude.{◌≡◌, ℕ, ◌+◌, ◌<◌, ◌≤◌, ◌^◌, ◌&&◌, ◌||◌, not, Bool, true, false, List, [], ◌∷◌, ◌++◌, length, None, nat_lt, codes, if◌then◌else◌}
 use Rattle.std.specs.List.{list_all}
 use Rattle.std.specs.Fmt.{decimal, digits}
 use Rattle.verilog_tree.specs.Renaming.{name_in}
-use Rattle.verilog_text.specs.declared.token.Word.{Word}
 use Rattle.verilog_text.specs.declared.token.Word.TheVariants as word
 use Rattle.verilog_text.specs.declared.token.Mark.TheVariants as mark
 use Rattle.verilog_text.specs.declared.token.Decimal.{Decimal}

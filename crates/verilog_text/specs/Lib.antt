@@ -8,3 +8,4 @@ pub mod Reading
 pub mod Layout
 pub mod Renamed
 pub mod Shortest
+pub mod Order

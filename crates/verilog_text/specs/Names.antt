@@ -1,5 +1,5 @@
 -- The different names of a text, in the order of their first appearance.
-use Rattle.std.specs.Prelude.{◌≡◌, ℕ, ◌+◌, List, [], ◌∷◌, map, length, Option, Some, None, if◌then◌else◌}
+use Rattle.std.specs.Prelude.{ℕ, List, [], ◌∷◌, map, if◌then◌else◌}
 use Rattle.std.specs.Str.{bytes_eq}
 use Rattle.verilog_tree.specs.Renaming.{number_in}
 use Rattle.verilog_text.specs.declared.token.Token.{Token}

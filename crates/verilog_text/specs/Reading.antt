@@ -11,7 +11,7 @@ use Rattle.verilog_text.specs.declared.token.Token.{Token}
 use Rattle.verilog_text.specs.declared.token.Token.TheVariants as token
 use Rattle.verilog_text.specs.Grammar.{limits}
 use Rattle.verilog_text.specs.Text.{Text, tokens_of, clock_text, AreItems, signals_of, assigns_of, blocks_of}
-use Rattle.verilog_text.specs.Lexer.{Piece, Gap, NameText, Fixed, OutsidePiece, UnreadablePiece, Placed, Scans}
+use Rattle.verilog_text.specs.Lexer.{Piece, NameText, Fixed, Placed, Scans}
 use Rattle.verilog_text.specs.Names.{names_behind, Inside, lexemes_of}
 
 -- behind these words names are declared

@@ -1,5 +1,5 @@
 -- Texts with other numbers for their names.
-use Rattle.std.specs.Prelude.{ℕ, List, [], ◌∷◌, map}
+use Rattle.std.specs.Prelude.{ℕ, map}
 use Rattle.verilog_text.specs.declared.token.Token.{Token}
 use Rattle.verilog_text.specs.declared.token.Token.TheVariants as token
 use Rattle.verilog_text.specs.Grammar.{Source, Sources, Named, BitOf, PartOf, Number, Based, Bracketed, Joined, Inverted, Operated, Shifted, Chosen, no_member, member}

@@ -5,7 +5,7 @@ use Rattle.verilog_tree.specs.declared.tree.Kind.TheVariants as kind
 use Rattle.verilog_tree.specs.declared.tree.Signal.{Signal}
 use Rattle.verilog_tree.specs.Tree as tree
 use Rattle.verilog_tree.specs.Tree.{Tree, Trees, Action, Actions, Assignment, Design}
-use Rattle.verilog_tree.specs.Renaming.{name_in, number_in, AreDistinct}
+use Rattle.verilog_tree.specs.Renaming.{number_in, AreDistinct}
 use Rattle.verilog_text.specs.declared.token.Decimal.{Decimal}
 use Rattle.verilog_text.specs.Grammar.{Source, Sources, Named, BitOf, PartOf, Number, Based, Bracketed, Joined, Inverted, Operated, Shifted, Chosen, no_member, member, rank, looseness, is_plain, depth, operators, Limits}
 use Rattle.verilog_text.specs.Statements.{Statement, Statements, Block, Guarded, Forked, Given, none, more, openness, height, IsShort}

@@ -3,8 +3,7 @@ use Rattle.std.specs.Prelude.{ℕ, ◌+◌, ◌≤◌, Bool, true, false, List, 
 use Rattle.verilog_tree.specs.declared.tree.Kind.{Kind}
 use Rattle.verilog_tree.specs.declared.tree.Kind.TheVariants as kind
 use Rattle.verilog_tree.specs.declared.tree.Signal.{Signal}
-use Rattle.verilog_tree.specs.Tree as tree
-use Rattle.verilog_tree.specs.Tree.{Action, Assignment, Design}
+use Rattle.verilog_tree.specs.Tree.{Action, Assignment}
 use Rattle.verilog_text.specs.declared.token.Decimal.{Decimal}
 use Rattle.verilog_text.specs.declared.token.Word.{Word}
 use Rattle.verilog_text.specs.declared.token.Word.TheVariants as word

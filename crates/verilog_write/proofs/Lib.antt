@@ -1,0 +1,3 @@
+pub mod Writings
+pub mod Digits
+pub mod Whole
