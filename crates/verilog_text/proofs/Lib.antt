@@ -10,3 +10,9 @@ pub mod Alike
 pub mod RoundTrip
 pub mod Writings
 pub mod InOrder
+pub mod Passing
+pub mod Steps
+pub mod StatementSteps
+pub mod TextSteps
+pub mod Unique
+pub mod OneReading

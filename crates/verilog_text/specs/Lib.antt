@@ -9,3 +9,6 @@ pub mod Layout
 pub mod Renamed
 pub mod Shortest
 pub mod Order
+pub mod Machine
+pub mod StatementMachine
+pub mod TextMachine

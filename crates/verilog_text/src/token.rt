@@ -65,3 +65,12 @@ pub enum Token {
     Shift(ShiftOp),
     Punctuation(Mark),
 }
+
+/// Why a text is refused at a place.
+#[derive(Clone, Copy, Debug, PartialEq, Eq)]
+pub enum Why {
+    Lexical,
+    Syntax,
+    OutsideSubset,
+    TooDeep,
+}
