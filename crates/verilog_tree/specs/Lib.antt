@@ -10,3 +10,4 @@ pub mod Counted
 pub mod Alike
 pub mod Laws
 pub mod Renaming
+pub mod Checks
