@@ -65,12 +65,12 @@ register_is (Some (Equal a b)) e = absurd (false_true e)
 register_is (Some (Bits a high low)) e = absurd (false_true e)
 register_is (Some (Register next)) e = (next, refl)
 
-wire_parts : (b c : Bool) → (not b && not c) ≡ true → (b ≡ false) × (c ≡ false)
+pub wire_parts : (b c : Bool) → (not b && not c) ≡ true → (b ≡ false) × (c ≡ false)
 wire_parts true c e = absurd (false_true e)
 wire_parts false true e = absurd (false_true e)
 wire_parts false false e = (refl, refl)
 
-register_data : (item : Option Item) → is_register item ≡ true → is_input item ≡ false
+pub register_data : (item : Option Item) → is_register item ≡ true → is_input item ≡ false
 register_data item e = let r = register_is item e in ap is_input r.1
 
 wire_of : (b c : Bool) → b ≡ false → c ≡ false → (not b && not c) ≡ true
@@ -100,15 +100,15 @@ module _ (cells : List Cell) (netlist : IsNetlist cells) (writable : IsWritable 
 
   -- ---- shapes
 
-  wide_of : (place : ℕ) (cell : Cell) → slice_get cells place ≡ Some cell → 1 ≤ cell.width
+  pub wide_of : (place : ℕ) (cell : Cell) → slice_get cells place ≡ Some cell → 1 ≤ cell.width
   wide_of place cell at = (netlist.well_formed.each place cell at).wide.0
 
-  signal_of : (place : ℕ) (cell : Cell) → slice_get cells place ≡ Some cell → is_input cell.item ≡ false → declaration_in D.signals (N place) ≡ Some (node_signal cell (N place))
+  pub signal_of : (place : ℕ) (cell : Cell) → slice_get cells place ≡ Some cell → is_input cell.item ≡ false → declaration_in D.signals (N place) ≡ Some (node_signal cell (N place))
   signal_of place cell at data_node =
       passed_ports _ _ (N place) _ (number_least cells 7 place cell at data_node) ∙ found_signal cells 7 place cell at data_node
 
   -- the input has the width of the port
-  input_width : (place : ℕ) (cell : Cell) → slice_get cells place ≡ Some cell → is_input cell.item ≡ true → width_in cells ≡ cell.width
+  pub input_width : (place : ℕ) (cell : Cell) → slice_get cells place ≡ Some cell → is_input cell.item ≡ true → width_in cells ≡ cell.width
   input_width place cell at is =
       let first = first_there (λ (c : Cell). is_input c.item) cells place cell at is in
       let same = writable.one_input (input_place cells) place first.cell cell first.there at first.is_it is in

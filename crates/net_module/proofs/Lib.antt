@@ -5,3 +5,8 @@ pub mod Nodes
 pub mod Cycles
 pub mod Along
 pub mod Outputs
+pub mod CheckLists
+pub mod Passes
+pub mod PassesUses
+pub mod PassesRest
+pub mod PassesDrivers

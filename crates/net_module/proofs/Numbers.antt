@@ -23,7 +23,7 @@ number_least (x ∷ cells) first zero cell at node =
 number_least (x ∷ cells) first (suc place) cell at node =
     omega (arith, number_least cells (number_after (is_input x.item) first) place cell at node, after_least (is_input x.item) first)
 
-number_below : (cells : List Cell) (first j k : ℕ) (c d : Cell) → j < k → slice_get cells j ≡ Some c → slice_get cells k ≡ Some d → is_input c.item ≡ false → is_input d.item ≡ false
+pub number_below : (cells : List Cell) (first j k : ℕ) (c d : Cell) → j < k → slice_get cells j ≡ Some c → slice_get cells k ≡ Some d → is_input c.item ≡ false → is_input d.item ≡ false
     → number_in cells first j < number_in cells first k
 number_below [] first j k c d lt at found node none = absurd (omega (arith, slice_get_within {A = Cell} [] j c at))
 number_below (x ∷ cells) first zero zero c d lt at found node none = absurd (omega arith)
