@@ -9,3 +9,4 @@ pub mod RunLemmas
 pub mod ControlLemmas
 pub mod GrowLemmas
 pub mod BoundLemmas
+pub mod CountLemmas

@@ -5,3 +5,4 @@ pub mod Run
 pub mod WellFormed
 pub mod Grow
 pub mod Control
+pub mod Count

@@ -3,3 +3,7 @@ pub mod NumberedLemmas
 pub mod TakenLemmas
 pub mod CounterLemmas
 pub mod WindowLemmas
+pub mod PairLemmas
+pub mod SegmentLemmas
+pub mod LevelLemmas
+pub mod TreeLemmas

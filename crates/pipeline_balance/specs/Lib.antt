@@ -1,3 +1,5 @@
 pub mod Numbered
 pub mod Bits
 pub mod Gate
+pub mod Leaves
+pub mod Tree
