@@ -16,3 +16,6 @@ pub mod StatementSteps
 pub mod TextSteps
 pub mod Unique
 pub mod OneReading
+pub mod Around
+pub mod Sound
+pub mod StatementSound

@@ -19,7 +19,7 @@ abbrev pub room : List Frame → ℕ
 room [] = 9
 room (InBracket ∷ stack) = 9
 room (InNot ∷ stack) = 1
-room (InMembers done ∷ stack) = 9
+room (InMembers held ∷ stack) = 9
 room (InRight left op ∷ stack) = rank op
 room (InYes condition ∷ stack) = 9
 room (InNo condition on_true ∷ stack) = 9
@@ -41,7 +41,7 @@ pub fold_keeps : (loose : ℕ) (stack : List Frame) (e : Tree) → 0 < loose →
 fold_keeps loose [] e low high fits = refl
 fold_keeps loose (InBracket ∷ stack) e low high fits = refl
 fold_keeps loose (InNot ∷ stack) e low high fits = absurd (omega arith)
-fold_keeps loose (InMembers done ∷ stack) e low high fits = refl
+fold_keeps loose (InMembers held ∷ stack) e low high fits = refl
 fold_keeps loose (InRight left op ∷ stack) e low high fits = cond-false _ _ _ (lt-leb (rank op) loose fits)
 fold_keeps loose (InYes condition ∷ stack) e low high fits = refl
 fold_keeps loose (InNo condition on_true ∷ stack) e low high fits = cond-false _ _ _ (lt-leb 8 loose high)
@@ -240,25 +240,25 @@ module _ (limits : Limits) where
         }
 
     -- the members behind a `{` or a comma, and the `}`
-    reads_members : (stack : List Frame) (used : ℕ) (done : Trees) (cs : Sources) → HasMember cs → AreGrouped cs → 1 + levels stack + depths cs ≤ limits.levels → used + operators_in cs ≤ limits.operators
-        → Passes limits (at (InMembers done ∷ stack) Operand used) (written_rest cs) (at stack (After None 0 (tree.Cat (followed_by done (trees_of cs)))) (used + operators_in cs))
-    reads_members stack used done no_member some g high few = absurd some
-    reads_members stack used done (member c no_member) some g high few =
+    reads_members : (stack : List Frame) (used : ℕ) (held : Trees) (cs : Sources) → HasMember cs → AreGrouped cs → 1 + levels stack + depths cs ≤ limits.levels → used + operators_in cs ≤ limits.operators
+        → Passes limits (at (InMembers held ∷ stack) Operand used) (written_rest cs) (at stack (After None 0 (tree.Cat (followed_by held (trees_of cs)))) (used + operators_in cs))
+    reads_members stack used held no_member some g high few = absurd some
+    reads_members stack used held (member c no_member) some g high few =
         let low = looseness_most c in
         let n : ℕ = used + operators c in
-        let x : HasRead limits (InMembers done ∷ stack) used c = reads (InMembers done ∷ stack) used c (record { grouped = g.1; in_room = omega arith; in_levels = omega (arith, high); in_operators = omega (arith, few); free = free_member (InMembers done ∷ stack) used c g.0 }) in
-        let all : with_last done (tree_of c) ≡ followed_by done (trees_of (member c no_member)) = sym (followed_by-none (with_last done (tree_of c))) ∙ followed_by-last done (tree_of c) tree.none in
-        let joins : step limits (at x.stack' (After x.bare x.loose x.operand) n) (token.Punctuation mark.CloseBrace) ≡ Ok (at stack (After None 0 (tree.Cat (followed_by done (trees_of (member c no_member))))) n) =
+        let x : HasRead limits (InMembers held ∷ stack) used c = reads (InMembers held ∷ stack) used c (record { grouped = g.1; in_room = omega arith; in_levels = omega (arith, high); in_operators = omega (arith, few); free = free_member (InMembers held ∷ stack) used c g.0 }) in
+        let all : with_last held (tree_of c) ≡ followed_by held (trees_of (member c no_member)) = sym (followed_by-none (with_last held (tree_of c))) ∙ followed_by-last held (tree_of c) tree.none in
+        let joins : step limits (at x.stack' (After x.bare x.loose x.operand) n) (token.Punctuation mark.CloseBrace) ≡ Ok (at stack (After None 0 (tree.Cat (followed_by held (trees_of (member c no_member))))) n) =
         ap (λ h. joined h.stack h.operand n) (x.folds 8 low) ∙ cond-false _ _ _ g.0 ∙ ap (λ ts. Ok (at stack (After None 0 (tree.Cat ts)) n)) all in
-        subst (λ m. Passes limits (at (InMembers done ∷ stack) Operand used) (written_rest (member c no_member)) (at stack (After None 0 (tree.Cat (followed_by done (trees_of (member c no_member))))) m)) {x = n} {y = used + operators_in (member c no_member)} (omega arith)
+        subst (λ m. Passes limits (at (InMembers held ∷ stack) Operand used) (written_rest (member c no_member)) (at stack (After None 0 (tree.Cat (followed_by held (trees_of (member c no_member))))) m)) {x = n} {y = used + operators_in (member c no_member)} (omega arith)
         (chained x.passes (one (token.Punctuation mark.CloseBrace) joins))
-    reads_members stack used done (member c (member d cs)) some g high few =
+    reads_members stack used held (member c (member d cs)) some g high few =
         let low = looseness_most c in
         let n : ℕ = used + operators c in
-        let x : HasRead limits (InMembers done ∷ stack) used c = reads (InMembers done ∷ stack) used c (record { grouped = g.1; in_room = omega arith; in_levels = omega (arith, high); in_operators = omega (arith, few); free = free_member (InMembers done ∷ stack) used c g.0 }) in
-        let parts : step limits (at x.stack' (After x.bare x.loose x.operand) n) (token.Punctuation mark.Comma) ≡ Ok (at (InMembers (with_last done (tree_of c)) ∷ stack) Operand n) = ap (λ h. parted h.stack h.operand n) (x.folds 8 low) ∙ cond-false _ _ _ g.0 in
-        let y = reads_members stack n (with_last done (tree_of c)) (member d cs) tt g.2 (omega (arith, high)) (omega (arith, few)) in
+        let x : HasRead limits (InMembers held ∷ stack) used c = reads (InMembers held ∷ stack) used c (record { grouped = g.1; in_room = omega arith; in_levels = omega (arith, high); in_operators = omega (arith, few); free = free_member (InMembers held ∷ stack) used c g.0 }) in
+        let parts : step limits (at x.stack' (After x.bare x.loose x.operand) n) (token.Punctuation mark.Comma) ≡ Ok (at (InMembers (with_last held (tree_of c)) ∷ stack) Operand n) = ap (λ h. parted h.stack h.operand n) (x.folds 8 low) ∙ cond-false _ _ _ g.0 in
+        let y = reads_members stack n (with_last held (tree_of c)) (member d cs) tt g.2 (omega (arith, high)) (omega (arith, few)) in
         let e : n + operators_in (member d cs) ≡ used + operators_in (member c (member d cs)) = omega arith in
-        subst (λ ts. Passes limits (at (InMembers done ∷ stack) Operand used) (written_rest (member c (member d cs))) (at stack (After None 0 (tree.Cat ts)) (used + operators_in (member c (member d cs))))) (followed_by-last done (tree_of c) (trees_of (member d cs)))
-        (subst (λ m. Passes limits (at (InMembers done ∷ stack) Operand used) (written_rest (member c (member d cs))) (at stack (After None 0 (tree.Cat (followed_by (with_last done (tree_of c)) (trees_of (member d cs))))) m)) e
+        subst (λ ts. Passes limits (at (InMembers held ∷ stack) Operand used) (written_rest (member c (member d cs))) (at stack (After None 0 (tree.Cat ts)) (used + operators_in (member c (member d cs))))) (followed_by-last held (tree_of c) (trees_of (member d cs)))
+        (subst (λ m. Passes limits (at (InMembers held ∷ stack) Operand used) (written_rest (member c (member d cs))) (at stack (After None 0 (tree.Cat (followed_by (with_last held (tree_of c)) (trees_of (member d cs))))) m)) e
         (chained x.passes (chained (one (token.Punctuation mark.Comma) parts) y)))

@@ -43,7 +43,7 @@ abbrev pub levels : List Frame → ℕ
 levels [] = 0
 levels (InBracket ∷ stack) = 1 + levels stack
 levels (InNot ∷ stack) = 1 + levels stack
-levels (InMembers done ∷ stack) = 1 + levels stack
+levels (InMembers held ∷ stack) = 1 + levels stack
 levels (InRight left op ∷ stack) = levels stack
 levels (InYes condition ∷ stack) = 1 + levels stack
 levels (InNo condition on_true ∷ stack) = 1 + levels stack
@@ -58,7 +58,7 @@ abbrev pub fold_to : ℕ → List Frame → Tree → Folded
 fold_to loose [] e = record { stack = []; operand = e }
 fold_to loose (InBracket ∷ stack) e = record { stack = InBracket ∷ stack; operand = e }
 fold_to loose (InNot ∷ stack) e = fold_to loose stack (tree.Not e)
-fold_to loose (InMembers done ∷ stack) e = record { stack = InMembers done ∷ stack; operand = e }
+fold_to loose (InMembers held ∷ stack) e = record { stack = InMembers held ∷ stack; operand = e }
 fold_to loose (InRight left op ∷ stack) e = if nat_le (rank op) loose then fold_to loose stack (tree.Binary op left e) else record { stack = InRight left op ∷ stack; operand = e }
 fold_to loose (InYes condition ∷ stack) e = record { stack = InYes condition ∷ stack; operand = e }
 fold_to loose (InNo condition on_true ∷ stack) e = if nat_le 8 loose then fold_to loose stack (tree.Choice condition on_true e) else record { stack = InNo condition on_true ∷ stack; operand = e }
@@ -75,7 +75,7 @@ abbrev pub at_member : List Frame → Bool
 at_member [] = false
 at_member (InBracket ∷ stack) = false
 at_member (InNot ∷ stack) = false
-at_member (InMembers done ∷ stack) = true
+at_member (InMembers held ∷ stack) = true
 at_member (InRight left op ∷ stack) = false
 at_member (InYes condition ∷ stack) = false
 at_member (InNo condition on_true ∷ stack) = false
@@ -113,11 +113,11 @@ closed (InBracket ∷ stack) e used = Ok (at stack (After None 0 e) used)
 closed _ e used = Err why.Syntax
 
 abbrev pub parted : List Frame → Tree → ℕ → Result State Why
-parted (InMembers done ∷ stack) e used = if is_plain e then Err why.Syntax else Ok (at (InMembers (with_last done e) ∷ stack) Operand used)
+parted (InMembers held ∷ stack) e used = if is_plain e then Err why.Syntax else Ok (at (InMembers (with_last held e) ∷ stack) Operand used)
 parted _ e used = Err why.Syntax
 
 abbrev pub joined : List Frame → Tree → ℕ → Result State Why
-joined (InMembers done ∷ stack) e used = if is_plain e then Err why.Syntax else Ok (at stack (After None 0 (tree.Cat (with_last done e))) used)
+joined (InMembers held ∷ stack) e used = if is_plain e then Err why.Syntax else Ok (at stack (After None 0 (tree.Cat (with_last held e))) used)
 joined _ e used = Err why.Syntax
 
 abbrev pub turned : List Frame → Tree → ℕ → Result State Why
