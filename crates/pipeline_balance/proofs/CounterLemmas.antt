@@ -247,7 +247,7 @@ IsCounter-circuit {n0} {n1} {n2} {n3} {n4} {n5} {n6} {n7} {n8} {w} {period} {fir
 
 -- ---- in a net whose group is another
 
-added_anyhow : (group : ℕ) (cell : Cell) → IsAdded 0 cell → IsAdded group cell
+pub added_anyhow : (group : ℕ) (cell : Cell) → IsAdded 0 cell → IsAdded group cell
 added_anyhow group cell a = record { of_group = elim a.of_group [ inl e ↦ inl e | inr e ↦ inl e ]; no_input = a.no_input }
 
 -- nodes that were added as control are added to a net of any group

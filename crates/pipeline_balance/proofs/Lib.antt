@@ -7,3 +7,6 @@ pub mod PairLemmas
 pub mod SegmentLemmas
 pub mod LevelLemmas
 pub mod TreeLemmas
+pub mod PhaseLemmas
+pub mod SelectLemmas
+pub mod DelayLemmas

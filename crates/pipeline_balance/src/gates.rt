@@ -37,12 +37,13 @@ fn last_of(period: u64, first: u64) -> u64
     first.max(period - 1)
 }
 
-// The bit of `counter`, in a net whose group is that of control.
-fn count_ticks(net: &mut Net, period: u64, first: u64) -> Result<Node, Memory>
+/// The bit of `counter`, in a net whose group is that of control.
+pub(crate) fn count_ticks(net: &mut Net, period: u64, first: u64) -> Result<Node, Memory>
     requires positive { 1 ≤ period }
     requires control { net.old.group ≡ 0 }
     ensures ok { IfOk result (IsCounter net.old net.new (IsTickOf period first)) }
     ensures extends { Extends net.old.cells net.new.cells }
+    ensures group { net.new.group ≡ net.old.group }
 {
     let again = restart_of(period, first);
     let width = bits_for(last_of(period, first));

@@ -2,12 +2,18 @@
 #![tactic(auto)]
 
 mod adder_tree;
+mod delays;
 mod gates;
 mod level;
 mod numbering;
 mod pair;
+mod phase;
+mod selections;
 mod windows;
 
 pub use adder_tree::{Summed, tree};
+pub use delays::delay;
 pub use gates::{counter, gate_of};
+pub use phase::phases;
+pub use selections::select;
 pub use windows::{taking_register, window};

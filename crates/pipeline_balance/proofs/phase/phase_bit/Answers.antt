@@ -1,0 +1,30 @@
+use Rattle.std.proofs.Common.{◌≡◌, ◌<◌, arith, ℕ, ℤ, pos, subst, ◌^◌}
+use Rattle.std.proofs.lemmas.Int.{to_z-of_z, ints}
+use mir.Val.{to_z, of_z, SFits}
+use mir.Syntax.{w128}
+use Rattle.net_graph.proofs.NetLemmas.{Extends-adds, Extends-then}
+use Rattle.net_graph.specs.Grow.{Adds}
+use Rattle.net_graph.specs.declared.cell.Item.TheVariants.{Constant}
+use Rattle.pipeline_balance.proofs.PhaseLemmas.{IsPhase-circuit}
+use Rattle.pipeline_balance.proofs.phase.phase_bit.Goals as goal
+
+passed : (n : ℕ) (z : ℤ) → z ≡ pos n → n < 2 ^ 64 → to_z w128 (of_z w128 z) ≡ pos n
+passed n z e h = let f : SFits w128 (pos n) = omega (arith, ints) in rw e (to_z-of_z w128 (pos n) f)
+
+pub returns-in_err-same-clause-extends : goal.returns-in_err-same-clause-extends
+returns-in_err-same-clause-extends c = rw c.in_err-same.ensures.err (Extends-adds c.in_ok-number.ensures.ok)
+
+pub returns-in_err-clear-clause-extends : goal.returns-in_err-clear-clause-extends
+returns-in_err-clear-clause-extends c = rw c.in_err-clear.ensures.err (Extends-then (Extends-adds c.in_ok-number.ensures.ok) c.in_ok-same.ensures.ok)
+
+pub returns-in_err-bit-clause-extends : goal.returns-in_err-bit-clause-extends
+returns-in_err-bit-clause-extends c = rw c.in_err-bit.ensures.err (Extends-then (Extends-then (Extends-adds c.in_ok-number.ensures.ok) c.in_ok-same.ensures.ok) c.in_ok-clear.ensures.ok)
+
+pub returns-clause-ok : goal.returns-clause-ok
+returns-clause-ok c period first count positive below room gate counted =
+    let value : to_z w128 (of_z w128 c.from.result) ≡ pos c.args.phase = passed c.args.phase c.from.result c.from.ensures (omega (arith, c.ranges.phase)) in
+    let number = subst (λ (z : ℤ). Adds c.args.net.now c.constant.new.self c.in_ok-number.number c.args.width (Constant z)) value c.in_ok-number.ensures.ok in
+    IsPhase-circuit period first count c.requires.wide.0 positive below room c.requires.control c.requires.on_control c.requires.index_control gate counted number c.in_ok-same.ensures.ok c.in_ok-clear.ensures.ok c.in_ok-bit.ensures.ok
+
+pub returns-clause-extends : goal.returns-clause-extends
+returns-clause-extends c = Extends-then (Extends-then (Extends-then (Extends-adds c.in_ok-number.ensures.ok) c.in_ok-same.ensures.ok) c.in_ok-clear.ensures.ok) c.in_ok-bit.ensures.ok
