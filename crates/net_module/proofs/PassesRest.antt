@@ -113,7 +113,7 @@ module _ (cells : List Cell) (netlist : IsNetlist cells) (writable : IsWritable 
 
   -- ---- the widths of the ports
 
-  in_range : (1 ≤ w_in) × (w_in ≤ 127)
+  pub in_range : (1 ≤ w_in) × (w_in ≤ 127)
   in_range =
       let is = input_width cells netlist writable writable.input.place writable.input.cell writable.input.there writable.input.is_it in
       let wide = wide_of cells netlist writable writable.input.place writable.input.cell writable.input.there in
@@ -131,7 +131,7 @@ module _ (cells : List Cell) (netlist : IsNetlist cells) (writable : IsWritable 
           let same : n ≡ m = λ i. record { group = (second.1 ∙ sym first.1) i; kind = (second.0 ∙ sym first.0) i; number = (second.2 ∙ sym first.2) i } in
           netlist.well_formed.apart j k c d m at found e (f ∙ ap Some same)
 
-  out_range : (1 ≤ w_out) × (w_out ≤ 127)
+  pub out_range : (1 ≤ w_out) × (w_out ≤ 127)
   out_range =
       let there = output_there cells netlist writable in
       let same = one_output (output_place cells) writable.output.place there.cell writable.output.cell there.there writable.output.there there.is_it writable.output.is_it in
