@@ -1,6 +1,7 @@
 -- The net of one tap, call by call.
-use Rattle.std.proofs.Common.{◌≡◌, ℕ, zero, suc, ◌+◌, ◌-◌, ◌<◌, ◌≤◌, ◌^◌, List, [], ◌∷◌, length, refl, sym, ◌∙◌, ap, arith, Option, Some, None, slice_get, inl, inr, subst, ℤ, pos, ◌-ℤ◌, ◌*ℤ◌, IsSome, Bool, true, false, not, ◌&&◌}
+use Rattle.std.proofs.Common.{◌≡◌, ◌⊎◌, ℕ, zero, suc, ◌+◌, ◌-◌, ◌<◌, ◌≤◌, ◌^◌, List, [], ◌∷◌, length, refl, sym, ◌∙◌, ap, arith, Option, Some, None, slice_get, inl, inr, subst, ℤ, pos, ◌-ℤ◌, ◌*ℤ◌, IsSome, Bool, true, false, not, ◌&&◌}
 use Rattle.std.proofs.lemmas.Int.{ints}
+use Rattle.std.proofs.lemmas.Bool.{cases_lt}
 use Rattle.mr_values.specs.Width.{FitsWidth}
 use Rattle.mr_values.proofs.WidthLemmas.{FitsWidth-zero, FitsWidth-*}
 use Rattle.mr_values.specs.Sequence.{samples}
@@ -31,7 +32,7 @@ use Rattle.pipeline_balance.specs.Gate.{IsTickOf, IsCounter, HasTaken, taken_val
 use Rattle.pipeline_balance.proofs.NumberedLemmas.{IsRegister-later, free_adds}
 use Rattle.pipeline_balance.proofs.TakenLemmas.{IsBitOf-later}
 use Rattle.chain_build.proofs.Convolution.{weighted_one, taken_value-below, taken_value-sequence, taken_value-later, taken_value_none, taken_value-each}
-use Rattle.chain_build.specs.OneTap.{IsOneTap, BeginsWith, EachFits, IsOneTapNet}
+use Rattle.chain_build.specs.OneTap.{IsOneTap, BeginsWith, EachFits, HasInput, IsOneTapNet}
 
 -- every tick of a stream of period 1 takes one value
 every_tick : (t : ℕ) → HasTaken 1 0 t t
@@ -119,6 +120,25 @@ module _ {n1 n2 n3 n4 n5 n6 : NetView} {input last product out_q out_valid : Nod
 
   input_at : slice_get n1.cells input.place ≡ Some (record { group = 0; name = None; width = width; item = Some Input })
   input_at = cell_of_added a
+
+  -- it stays the only input
+  has_input : HasInput n6.cells width
+  has_input =
+      let kept = x1.keeps input.place _ input_at in
+      record {
+        cell = kept.cell;
+        there = subst (λ (k : ℕ). slice_get n6.cells k ≡ Some kept.cell) a.place kept.there;
+        is_it = kept.input;
+        same_width = kept.width;
+        only = λ k other there is. first k other there is (cases_lt k 1);
+      }
+    where
+      one : length n1.cells ≡ 1
+      one = ap length a.cells
+
+      first : (k : ℕ) (other : Cell) → slice_get n6.cells k ≡ Some other → is_input other.item ≡ true → (k < 1) ⊎ (1 ≤ k) → k ≡ 0
+      first k other there is (inl low) = omega arith
+      first k other there is (inr high) = absurd (let no = (whole.added k other (omega (arith, one)) there).no_input in let f : false ≡ true = sym no ∙ is in cc)
 
   bound1 : IsBound n1.cells
   bound1 = record { each = λ k cell there. subst (λ (c : Cell). IsSome c.item) (sym (only_input width a k cell there)) refl }
@@ -220,6 +240,7 @@ module _ {n1 n2 n3 n4 n5 n6 : NetView} {input last product out_q out_valid : Nod
   pub one_tap_net : IsWellFormed n6.cells → IsOneTapNet width count place shift n6.cells out_q out_valid held
   one_tap_net formed = record {
     netlist = record { well_formed = formed; bound = bound6 };
+    input = has_input;
     closed = closed6;
     register = subst (λ (u : ℕ). IsRegister n6.cells out_q.place 1 (name_of 0 Output 0) u) product_width
         (subst (λ (g : ℕ). IsRegister n6.cells out_q.place g (name_of 0 Output 0) (cell_at n3.cells product.place).width) group3 (IsRegister-later x4 t.register));

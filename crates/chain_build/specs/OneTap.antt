@@ -1,5 +1,5 @@
 -- The net of one parallel filter of which one tap is a power of two and all others are 0.
-use Rattle.std.specs.Prelude.{◌≡◌, ◌≢◌, ℕ, ◌+◌, ◌<◌, ◌≤◌, ◌^◌, ℤ, pos, List, [], ◌∷◌, length, Some, slice_get, slice_index_or}
+use Rattle.std.specs.Prelude.{◌≡◌, true, ◌≢◌, ℕ, ◌+◌, ◌<◌, ◌≤◌, ◌^◌, ℤ, pos, List, [], ◌∷◌, length, Some, slice_get, slice_index_or}
 use Rattle.mr_values.specs.Width.{FitsWidth, set_bit}
 use Rattle.mr_values.specs.Value.{val}
 use Rattle.mr_values.specs.declared.plan.Element.TheVariants.{Filter}
@@ -8,6 +8,7 @@ use Rattle.net_graph.specs.declared.cell.Cell.{Cell}
 use Rattle.net_graph.specs.declared.cell.Node.{Node}
 use Rattle.net_graph.specs.declared.name.NameKind.TheVariants.{Window, Output, Valid}
 use Rattle.net_graph.specs.Cells.{cell_at}
+use Rattle.net_graph.specs.Name.{is_input}
 use Rattle.net_graph.specs.WellFormed.{IsNetlist}
 use Rattle.net_graph.specs.Control.{IsOfControl, IsControlClosed}
 use Rattle.net_graph.specs.Cut.{Cut, IsCut}
@@ -28,11 +29,20 @@ BeginsWith inputs xs = (k : ℕ) → k < length xs → slice_index_or xs k (pos 
 abbrev pub EachFits : ℕ → (ℕ → ℤ) → Type 0
 EachFits width inputs = (t : ℕ) → FitsWidth width (inputs t)
 
+-- the first node is the only input, and has this width
+pub record HasInput (net : List Cell) (width : ℕ) : Type 0 where
+  pub cell : Cell
+  pub there : slice_get net 0 ≡ Some cell
+  pub is_it : is_input cell.item ≡ true
+  pub same_width : cell.width ≡ width
+  pub only : (k : ℕ) (other : Cell) → slice_get net k ≡ Some other → is_input other.item ≡ true → k ≡ 0
+
 -- In every run over inputs of the width, cut or uncut, `out_q` has at tick 2 + n the filter's value n of the samples so far, and
 -- 0 before; the bit `out_valid` is set exactly from tick 2 on; and register `age` of the window has at tick k + age + 1 sample k, and
 -- 0 before.
 pub record IsOneTapNet (width count place shift : ℕ) (net : List Cell) (out_q out_valid : Node) (window : List Node) : Type 0 where
   pub netlist : IsNetlist net
+  pub input : HasInput net width
   pub closed : IsControlClosed net
   pub register : IsRegister net out_q.place 1 (name_of 0 Output 0) (width + shift)
   pub shown : (cell_at net out_valid.place).name ≡ Some (name_of 0 Valid 0)
