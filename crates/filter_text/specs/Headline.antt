@@ -1,0 +1,54 @@
+-- What the text of a plan has to show: each value of the chain at its tick, and nothing at any other tick.
+use Rattle.std.specs.Prelude.{◌≡◌, ℕ, zero, suc, ◌+◌, ◌-◌, ◌*◌, ◌≤◌, true, List, [], ◌∷◌, ◌++◌, length, map, drop, ℤ, pos}
+use Rattle.mr_values.specs.Width.{signed}
+use Rattle.mr_values.specs.Timing.{ceil_div}
+use Rattle.mr_values.specs.Value.{val}
+use Rattle.mr_values.specs.declared.plan.Element.{Element}
+use Rattle.verilog_tree.specs.Meaning.{Values}
+use Rattle.verilog_tree.specs.Names.{shapes_of}
+use Rattle.verilog_tree.specs.Shown.{Cycle, Event, RunsOver, EachFits, ports_of, events_of}
+use Rattle.verilog_tree.specs.Tree.{Design}
+use Rattle.verilog_text.specs.Reading.{Reads}
+use Rattle.net_module.specs.Steps.{HasNoReset, tick_data, ticks_in, pair_of}
+
+-- output n stands at the tick latency + n * period: so many outputs from one on, each with its tick
+abbrev pub outputs_from : ℕ → ℕ → (ℕ → ℤ) → ℕ → ℕ → List (ℕ × ℤ)
+outputs_from latency period value n zero = []
+outputs_from latency period value n (suc count) = (latency + n * period, value n) ∷ outputs_from latency period value (suc n) count
+
+-- all outputs whose ticks lie below a number of ticks
+abbrev pub outputs_within : ℕ → ℕ → (ℕ → ℤ) → ℕ → List (ℕ × ℤ)
+outputs_within latency period value ticks = outputs_from latency period value 0 (ceil_div (ticks - latency) period)
+
+-- the samples of a run with one sample a tick: `in_data` at its ticks, read as signed
+abbrev pub samples_in : ℕ → List Cycle → List ℤ
+samples_in width cycles = map (signed width) (tick_data cycles)
+
+-- the cycles of a run, of which this is the last reset cycle, and the settled values of each
+pub record IsRunFrom (d : Design) (width : ℕ) (content : Values) (before after : List Cycle) (reset : Cycle) (settled : List Values) : Type 0 where
+  pub run : RunsOver d content (before ++ reset ∷ after) settled
+  pub is_reset : reset.rst ≡ true
+  pub last : HasNoReset after
+  pub fit : EachFits width after
+
+-- what is shown in the cycles before a reset cycle, and in those after it
+abbrev pub events_before : Design → List Cycle → List Values → List Event
+events_before d before settled = events_of (shapes_of d) (ports_of d) before settled 0 0
+
+abbrev pub events_after : Design → List Cycle → List Cycle → List Values → List Event
+events_after d before after settled = events_of (shapes_of d) (ports_of d) after (drop (length before + 1) settled) (length before + 1) 0
+
+-- For every content of the registers and every list of cycles with a reset, whatever the samples and clock enables: what is shown after
+-- the last reset cycle is exactly value n of the chain over the samples since then, at the tick latency + n * period, for each n whose
+-- tick has come, and nothing at any other tick.
+pub record ShowsChain (elements : List Element) (width latency period : ℕ) (d : Design) : Type 0 where
+  pub parts : (content : Values) (before after : List Cycle) (reset : Cycle) (settled : List Values) → IsRunFrom d width content before after reset settled
+      → events_of (shapes_of d) (ports_of d) (before ++ reset ∷ after) settled 0 0 ≡ events_before d before settled ++ events_after d before after settled
+  pub shows : (content : Values) (before after : List Cycle) (reset : Cycle) (settled : List Values) → IsRunFrom d width content before after reset settled
+      → map pair_of (events_after d before after settled) ≡ outputs_within latency period (λ n. val elements (samples_in width after) (pos n)) (ticks_in after)
+
+-- the bytes read as a module that shows the chain
+pub record IsTextOf (elements : List Element) (width latency period : ℕ) (bytes : List ℕ) : Type 0 where
+  pub design : Design
+  pub reads : Reads bytes design
+  pub shows : ShowsChain elements width latency period design
