@@ -19,3 +19,4 @@ pub mod OneReading
 pub mod Around
 pub mod Sound
 pub mod StatementSound
+pub mod TextSound

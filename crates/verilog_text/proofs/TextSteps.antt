@@ -16,7 +16,7 @@ use Rattle.verilog_text.specs.Machine as inner
 use Rattle.verilog_text.specs.StatementMachine as statement
 use Rattle.verilog_text.specs.Statements.{worded, statement_text, action_of}
 use Rattle.verilog_text.specs.Text.{Text, Shape, Direction, Inward, Outward, FreshPort, Port, Fresh, Same, Store, InWire, InReg, Item, Declared, Assigned, Clocked, if_word, shape_text, direction_word, fresh_text, ports_text, names_text, store_word, item_text, items_text, tokens_of, IsItem, AreItems, direction_kind, store_kind, signal_of, fresh_signal, port_signals, item_signals, items_signals, signals_of, item_assigns, assigns_of, item_blocks, blocks_of}
-use Rattle.verilog_text.specs.TextMachine.{Wirable, Signable, Opening, FirstPort, Heading, Listed, NextPort, Nameable, Naming, PortsClosed, AtItem, Targeting, Assigning, Valued, AtEvent, InEvent, OnEdge, AtClock, EventClosed, Running, Done, Draft, State, at, declaring, or_over, or_assigned, value_lifted, statement_lifted, step, empty, start, and_then, run}
+use Rattle.verilog_text.specs.TextMachine.{drafted, Wirable, Signable, Opening, FirstPort, Heading, Listed, NextPort, Nameable, Naming, PortsClosed, AtItem, Targeting, Assigning, Valued, AtEvent, InEvent, OnEdge, AtClock, EventClosed, Running, Done, Draft, State, at, declaring, or_over, or_assigned, value_lifted, statement_lifted, step, empty, start, and_then, run}
 use Rattle.verilog_text.proofs.Passing.{Passing, one, chained, lift, resume}
 use Rattle.verilog_text.proofs.Steps as steps
 use Rattle.verilog_text.proofs.Steps.{looseness_most}
@@ -213,10 +213,6 @@ module _ (limits : Limits) (clock : ℕ) where
       let rest = reads_items xs (extended draft (item_signals x) (item_assigns x) (item_blocks x)) item.after h.1 item.begins in
       subst (λ d. Goes s (λ ts. items_text clock (x ∷ xs) (worded word.EndModule ts)) (at d Done)) (extended_twice draft (item_signals x) (items_signals xs) (item_assigns x) (assigns_of xs) (item_blocks x) (blocks_of xs))
       (chained (resume (step limits clock) s (at draft AtItem) item.after (item_text clock x) b item.goes) rest)
-
-  -- the module that the text stands for
-  abbrev pub drafted : Text → Draft
-  drafted t = record { name = t.name; signals = signals_of t; assigns = assigns_of t.items; blocks = blocks_of t.items }
 
   abbrev text_tokens : Text → List Token → List Token
   text_tokens t ts = worded word.Module (token.Name t.name ∷ marked mark.Open (fresh_text t.port (ports_text t.ports (marked mark.Close (marked mark.Semicolon (items_text clock t.items (worded word.EndModule ts)))))))

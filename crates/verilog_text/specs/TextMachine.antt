@@ -14,7 +14,7 @@ use Rattle.verilog_text.specs.declared.token.Token.TheVariants as token
 use Rattle.verilog_text.specs.declared.token.Why.{Why}
 use Rattle.verilog_text.specs.declared.token.Why.TheVariants as why
 use Rattle.verilog_text.specs.Grammar.{Limits}
-use Rattle.verilog_text.specs.Text.{Shape, signal_of}
+use Rattle.verilog_text.specs.Text.{Text, Shape, signal_of, signals_of, assigns_of, blocks_of}
 use Rattle.verilog_text.specs.Machine as inner
 use Rattle.verilog_text.specs.StatementMachine as statement
 
@@ -236,6 +236,10 @@ phase_step limits clock draft Done t = Err why.Syntax
 
 abbrev pub step : Limits → ℕ → State → Token → Result State Why
 step limits clock s t = phase_step limits clock s.draft s.phase t
+
+-- what a text stands for, but for names and places
+abbrev pub drafted : Text → Draft
+drafted t = record { name = t.name; signals = signals_of t; assigns = assigns_of t.items; blocks = blocks_of t.items }
 
 abbrev pub empty : Draft
 empty = record { name = 0; signals = []; assigns = []; blocks = [] }
