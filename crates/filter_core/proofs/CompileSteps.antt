@@ -1,14 +1,54 @@
 -- The writes of `compile`.
-use Rattle.std.proofs.Common.{◌≡◌, ℕ, List, [], Result, Ok, Err, inl, inr, ap, ◌∙◌, subst}
-use Rattle.std.specs.FinMap.{insert}
+use Rattle.std.proofs.Common.{◌≡◌, ◌⊎◌, ℕ, zero, suc, ◌<◌, ◌≤◌, ◌^◌, ℤ, pos, List, [], ◌∷◌, length, slice_index_or, Some, Result, Ok, Err, inl, inr, ap, ◌∙◌, drop, sym, subst, refl, arith}
+use Rattle.std.specs.Prelude.{◌≢◌}
+use Rattle.std.proofs.lemmas.Bool.{cases_lt}
+use Rattle.std.specs.FinMap.{get, insert}
+use Rattle.mr_values.specs.declared.plan.Element.TheVariants.{Filter}
+use Rattle.mr_values.specs.declared.plan.Form.{Form}
+use Rattle.mr_values.specs.declared.plan.Form.TheVariants.{Parallel}
+use Rattle.chain_build.specs.declared.one_tap.OneTap.{OneTap}
+use Rattle.chain_build.specs.OneTap.{IsOneTap}
+use Rattle.filter_text.specs.Headline.{IsTextOf}
+use Rattle.filter_core.specs.FirstPlan.{IsFirstPlan}
+use Rattle.filter_core.specs.SingleTap.{IsSingleTap}
+use Rattle.filter_core.specs.PlanMeanings.{plan_view}
+use Rattle.filter_core.specs.Report.{report_text}
+use Rattle.mr_values.specs.Files.{Files, bytes_of}
 use Rattle.mr_values.specs.Host.{HostState, left_of}
 use Rattle.mr_values.specs.declared.host.HostCall.TheVariants.{OpenInput, Next, OpenOutput, Put}
 use Rattle.filter_core.specs.declared.fault.Fault.{Fault}
 use Rattle.filter_core.specs.declared.fault.Fault.TheVariants.{HostFault, Memory}
-use Rattle.filter_core.specs.FirstPlan.{FirstPlan}
-use Rattle.filter_core.specs.FirstText.{module_text, report_text}
 use Rattle.filter_core.specs.WholeFiles.{WriteAnswer, IsEmptied, HoldsFront, HoldsPart}
-use Rattle.filter_core.specs.Compile.{IsAccepted, IsReadToEnd, CompileEnds}
+use Rattle.filter_core.specs.Compile.{AreOutputs, IsReadToEnd, CompileEnds}
+
+-- past its end a list has 0
+past_end : (xs : List ℤ) (k : ℕ) → length xs ≤ k → slice_index_or xs k (pos 0) ≡ pos 0
+past_end [] k high = refl
+past_end (x ∷ xs) zero high = absurd (omega arith)
+past_end (x ∷ xs) (suc k) high = past_end xs k (omega arith)
+
+-- the taps of a first plan, as the net of one tap asks
+one_tap : (taps : List ℤ) (count place shift : ℕ) → length taps ≡ count → IsSingleTap taps place shift → IsOneTap taps count place shift
+one_tap taps count place shift many single = record {
+  many = many;
+  power = single.power;
+  others = λ k apart. other k apart (cases_lt k (length taps));
+}
+  where
+    other : (k : ℕ) → (k ≢ place) → (k < length taps) ⊎ (length taps ≤ k) → slice_index_or taps k (pos 0) ≡ pos 0
+    other k apart (inl low) = single.others k low apart
+    other k apart (inr high) = past_end taps k high
+
+-- a text and a report of a plan that is there
+pub outputs_of : (plan : List ℕ) (files : Files) (bytes text lines : List ℕ) (found : OneTap) → get files plan ≡ Some bytes → length bytes ≤ 2 ^ 20 → IsFirstPlan bytes (plan_view found)
+    → ((taps : List ℤ) (form : Form) → IsOneTap taps found.count found.place found.shift → IsTextOf (Filter taps form ∷ []) found.width 2 1 text)
+    → lines ≡ report_text (plan_view found) → AreOutputs plan files text lines
+outputs_of plan files bytes text lines found there short first shows is = record {
+  meaning = plan_view found;
+  accepted = record { bytes = bytes; there = there; short = short; first = first };
+  shows = shows first.filter.taps Parallel (one_tap first.filter.taps found.count found.place found.shift first.taps first.single);
+  lines = is;
+}
 
 -- PLAN was read, and then nothing was read again
 pub read_to_end : (plan : List ℕ) (old read now : HostState) → read.files ≡ old.files → read.input ≡ plan → left_of read ≡ [] → now.input ≡ read.input → now.place ≡ read.place → IsReadToEnd plan old now
@@ -18,22 +58,22 @@ read_to_end plan old read now files input left same_input same_place = record {
 }
 
 -- the write of TEXT failed
-pub first_write : (plan text report : List ℕ) (meaning : FirstPlan) (fault : Fault) (old read new : HostState) → IsAccepted plan old.files meaning → read.files ≡ old.files
-    → WriteAnswer text (module_text meaning) (Err fault) read.files new.files → CompileEnds plan text report (Err fault) old new
-first_write plan text report meaning (HostFault OpenInput) old read new accepted files answer = absurd answer
-first_write plan text report meaning (HostFault Next) old read new accepted files answer = absurd answer
-first_write plan text report meaning (HostFault OpenOutput) old read new accepted files answer = (meaning, accepted, inl (subst (λ before. IsEmptied text before new.files) files answer))
-first_write plan text report meaning (HostFault Put) old read new accepted files answer = (meaning, accepted, inl (subst (λ before. HoldsFront text (module_text meaning) before new.files) files answer))
-first_write plan text report meaning Memory old read new accepted files answer = inr (meaning, accepted, inl (subst (λ before. HoldsPart text (module_text meaning) before new.files) files answer))
-first_write plan text report meaning _ old read new accepted files answer = absurd answer
+pub first_write : (plan text report : List ℕ) (text_bytes report_bytes : List ℕ) (fault : Fault) (old read new : HostState) → AreOutputs plan old.files text_bytes report_bytes → read.files ≡ old.files
+    → WriteAnswer text text_bytes (Err fault) read.files new.files → CompileEnds plan text report (Err fault) old new
+first_write plan text report text_bytes report_bytes (HostFault OpenInput) old read new outputs files answer = absurd answer
+first_write plan text report text_bytes report_bytes (HostFault Next) old read new outputs files answer = absurd answer
+first_write plan text report text_bytes report_bytes (HostFault OpenOutput) old read new outputs files answer = (text_bytes, report_bytes, outputs, inl (subst (λ before. IsEmptied text before new.files) files answer))
+first_write plan text report text_bytes report_bytes (HostFault Put) old read new outputs files answer = (text_bytes, report_bytes, outputs, inl (subst (λ before. HoldsFront text text_bytes before new.files) files answer))
+first_write plan text report text_bytes report_bytes Memory old read new outputs files answer = inr (text_bytes, report_bytes, outputs, inl (subst (λ before. HoldsPart text text_bytes before new.files) files answer))
+first_write plan text report text_bytes report_bytes _ old read new outputs files answer = absurd answer
 
 -- REPORT is written after TEXT
-pub last_write : (plan text report : List ℕ) (meaning : FirstPlan) (result : Result (Unit {0}) Fault) (old middle new : HostState) → IsAccepted plan old.files meaning → IsReadToEnd plan old new
-    → middle.files ≡ insert old.files text (module_text meaning) → WriteAnswer report (report_text meaning) result middle.files new.files → CompileEnds plan text report result old new
-last_write plan text report meaning (Ok done) old middle new accepted ended written answer = (meaning, accepted, ended, answer ∙ ap (λ files. insert files report (report_text meaning)) written)
-last_write plan text report meaning (Err (HostFault OpenInput)) old middle new accepted ended written answer = absurd answer
-last_write plan text report meaning (Err (HostFault Next)) old middle new accepted ended written answer = absurd answer
-last_write plan text report meaning (Err (HostFault OpenOutput)) old middle new accepted ended written answer = (meaning, accepted, inr (subst (λ before. IsEmptied report before new.files) written answer))
-last_write plan text report meaning (Err (HostFault Put)) old middle new accepted ended written answer = (meaning, accepted, inr (subst (λ before. HoldsFront report (report_text meaning) before new.files) written answer))
-last_write plan text report meaning (Err Memory) old middle new accepted ended written answer = inr (meaning, accepted, inr (subst (λ before. HoldsPart report (report_text meaning) before new.files) written answer))
-last_write plan text report meaning (Err _) old middle new accepted ended written answer = absurd answer
+pub last_write : (plan text report : List ℕ) (text_bytes report_bytes : List ℕ) (result : Result (Unit {0}) Fault) (old middle new : HostState) → AreOutputs plan old.files text_bytes report_bytes → IsReadToEnd plan old new
+    → middle.files ≡ insert old.files text text_bytes → WriteAnswer report report_bytes result middle.files new.files → CompileEnds plan text report result old new
+last_write plan text report text_bytes report_bytes (Ok done) old middle new outputs ended written answer = (text_bytes, report_bytes, outputs, ended, answer ∙ ap (λ files. insert files report report_bytes) written)
+last_write plan text report text_bytes report_bytes (Err (HostFault OpenInput)) old middle new outputs ended written answer = absurd answer
+last_write plan text report text_bytes report_bytes (Err (HostFault Next)) old middle new outputs ended written answer = absurd answer
+last_write plan text report text_bytes report_bytes (Err (HostFault OpenOutput)) old middle new outputs ended written answer = (text_bytes, report_bytes, outputs, inr (subst (λ before. IsEmptied report before new.files) written answer))
+last_write plan text report text_bytes report_bytes (Err (HostFault Put)) old middle new outputs ended written answer = (text_bytes, report_bytes, outputs, inr (subst (λ before. HoldsFront report report_bytes before new.files) written answer))
+last_write plan text report text_bytes report_bytes (Err Memory) old middle new outputs ended written answer = inr (text_bytes, report_bytes, outputs, inr (subst (λ before. HoldsPart report report_bytes before new.files) written answer))
+last_write plan text report text_bytes report_bytes (Err _) old middle new outputs ended written answer = absurd answer

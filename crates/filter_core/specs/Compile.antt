@@ -1,5 +1,5 @@
 -- What `compile` writes, and what its answers mean.
-use Rattle.std.specs.Prelude.{◌≡◌, ◌⊎◌, ℕ, ◌≤◌, ◌<◌, ◌^◌, List, [], length, drop, Some, Result, Ok, Err}
+use Rattle.std.specs.Prelude.{◌≡◌, ◌⊎◌, ℕ, ◌≤◌, ◌<◌, ◌^◌, List, [], ◌∷◌, length, drop, Some, Result, Ok, Err}
 use Rattle.std.specs.FinMap.{get, insert}
 use Rattle.mr_values.specs.Files.{Files, bytes_of}
 use Rattle.mr_values.specs.Host.{HostState}
@@ -8,8 +8,12 @@ use Rattle.mr_values.specs.declared.host.HostCall.TheVariants.{OpenInput, Next, 
 use Rattle.filter_core.specs.declared.fault.Fault.{Fault}
 use Rattle.filter_core.specs.declared.fault.Fault.TheVariants.{HostFault, Memory, FileTooLong, NotBuilt}
 use Rattle.filter_core.specs.declared.fault.FileKind.TheVariants.{Plan}
-use Rattle.filter_core.specs.FirstPlan.{FirstPlan, IsFirstPlan}
-use Rattle.filter_core.specs.FirstText.{module_text, report_text}
+use Rattle.mr_values.specs.declared.plan.Element.{Element}
+use Rattle.mr_values.specs.declared.plan.Element.TheVariants.{Filter}
+use Rattle.mr_values.specs.declared.plan.Form.TheVariants.{Parallel}
+use Rattle.filter_text.specs.Headline.{IsTextOf}
+use Rattle.filter_core.specs.FirstPlan.{FirstPlan, OneFilter, IsFirstPlan}
+use Rattle.filter_core.specs.Report.{report_text}
 use Rattle.filter_core.specs.WholeFiles.{IsEmptied, HoldsFront, HoldsPart}
 
 -- PLAN holds these bytes, and says this plan
@@ -37,33 +41,47 @@ pub record IsReadToEnd (plan : List ℕ) (old new : HostState) : Type 0 where
   pub input : new.input ≡ plan
   pub end : drop new.place (bytes_of old.files plan) ≡ []
 
--- TEXT and REPORT hold all that they are to hold, and no other file has changed
-abbrev pub HoldsBoth : List ℕ → List ℕ → FirstPlan → Files → Files → Type 0
-HoldsBoth text report meaning old new = new ≡ insert (insert old text (module_text meaning)) report (report_text meaning)
+-- the chain of a plan of one filter
+abbrev pub elements_of : OneFilter → List Element
+elements_of filter = Filter filter.taps Parallel ∷ []
+
+-- What TEXT and REPORT are to hold: a text that reads as a module which shows the plan's chain, at latency 2 and period 1,
+-- and the lines of the report.
+pub record AreOutputs (plan : List ℕ) (files : Files) (text report : List ℕ) : Type 0 where
+  pub meaning : FirstPlan
+  pub accepted : IsAccepted plan files meaning
+  pub shows : IsTextOf (elements_of accepted.first.filter) meaning.width 2 1 text
+  pub lines : report ≡ report_text meaning
+
+-- TEXT and REPORT hold these bytes, and no other file has changed
+abbrev pub HoldsBoth : List ℕ → List ℕ → List ℕ → List ℕ → Files → Files → Type 0
+HoldsBoth text report text_bytes report_bytes old new = new ≡ insert (insert old text text_bytes) report report_bytes
 
 -- what the files hold where TEXT was being written, or REPORT was and TEXT is whole
-abbrev pub WhileWriting : (List ℕ → List ℕ → Files → Files → Type 0) → List ℕ → List ℕ → FirstPlan → Files → Files → Type 0
-WhileWriting Holds text report meaning old new =
-    Holds text (module_text meaning) old new ⊎ Holds report (report_text meaning) (insert old text (module_text meaning)) new
+abbrev pub WhileWriting : (List ℕ → List ℕ → Files → Files → Type 0) → List ℕ → List ℕ → List ℕ → List ℕ → Files → Files → Type 0
+WhileWriting Holds text report text_bytes report_bytes old new =
+    Holds text text_bytes old new ⊎ Holds report report_bytes (insert old text text_bytes) new
+
+-- the same for some outputs of the plan
+abbrev pub IsCutShort : (List ℕ → List ℕ → Files → Files → Type 0) → List ℕ → List ℕ → List ℕ → Files → Files → Type 0
+IsCutShort Holds plan text report old new =
+    (text_bytes : List ℕ) × (report_bytes : List ℕ) × AreOutputs plan old text_bytes report_bytes × WhileWriting Holds text report text_bytes report_bytes old new
 
 -- what the files hold after the host call that failed
 abbrev pub IsStoppedAt : HostCall → List ℕ → List ℕ → List ℕ → Files → Files → Type 0
 IsStoppedAt OpenInput plan text report old new = new ≡ old
 IsStoppedAt Next plan text report old new = new ≡ old
-IsStoppedAt OpenOutput plan text report old new =
-    (meaning : FirstPlan) × IsAccepted plan old meaning × WhileWriting (λ name bytes. IsEmptied name) text report meaning old new
-IsStoppedAt Put plan text report old new =
-    (meaning : FirstPlan) × IsAccepted plan old meaning × WhileWriting HoldsFront text report meaning old new
+IsStoppedAt OpenOutput plan text report old new = IsCutShort (λ name bytes. IsEmptied name) plan text report old new
+IsStoppedAt Put plan text report old new = IsCutShort HoldsFront plan text report old new
 
 -- memory ran out before the outputs were opened, or while they were written
 abbrev pub IsCutOff : List ℕ → List ℕ → List ℕ → Files → Files → Type 0
-IsCutOff plan text report old new =
-    (new ≡ old) ⊎ ((meaning : FirstPlan) × IsAccepted plan old meaning × WhileWriting HoldsPart text report meaning old new)
+IsCutOff plan text report old new = (new ≡ old) ⊎ IsCutShort HoldsPart plan text report old new
 
 -- each answer of `compile`, and the host after it
 abbrev pub CompileEnds : List ℕ → List ℕ → List ℕ → Result (Unit {0}) Fault → HostState → HostState → Type 0
 CompileEnds plan text report (Ok done) old new =
-    (meaning : FirstPlan) × IsAccepted plan old.files meaning × IsReadToEnd plan old new × HoldsBoth text report meaning old.files new.files
+    (text_bytes : List ℕ) × (report_bytes : List ℕ) × AreOutputs plan old.files text_bytes report_bytes × IsReadToEnd plan old new × HoldsBoth text report text_bytes report_bytes old.files new.files
 CompileEnds plan text report (Err (FileTooLong Plan)) old new = IsTooLong plan old.files × (new.files ≡ old.files)
 CompileEnds plan text report (Err NotBuilt) old new = IsNotBuilt plan old.files × (new.files ≡ old.files)
 CompileEnds plan text report (Err (HostFault call)) old new = IsStoppedAt call plan text report old.files new.files

@@ -3,7 +3,7 @@ pub mod WholeFiles
 pub mod SingleTap
 pub mod FirstPlan
 pub mod PlanMeanings
-pub mod FirstText
+pub mod Report
 pub mod CommandWords
 pub mod Compile
 pub mod Tool

@@ -4,9 +4,10 @@ ghost use Rattle.filter_core.specs.Ends.{EndsWith, call_of};
 ghost use Rattle.filter_core.specs.Compile.{CompileEnds};
 
 use crate::files::{read_file, write_file};
-use crate::first_text::{module_text, report_text};
 use crate::plan::read_first_plan;
+use crate::report::report_text;
 use crate::{Fault, FileKind};
+use filter_text::one_tap_text;
 use mr_values::Host;
 use std::alloc::Global;
 
@@ -30,8 +31,8 @@ pub fn compile<H: Host>(
     let Some(found) = read_first_plan(alloc, &bytes)? else {
         return Err(Fault::NotBuilt);
     };
-    let module = module_text(alloc, &found)?;
-    let lines = report_text(alloc, &found)?;
+    let module = one_tap_text(alloc, found)?;
+    let lines = report_text(alloc, found)?;
     match write_file(host, text, &module) {
         Ok(()) => write_file(host, report, &lines),
         Err(fault) => Err(fault),

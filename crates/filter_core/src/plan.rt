@@ -1,5 +1,5 @@
 // Reading the plans that are built.
-ghost use Rattle.std.specs.Prelude.{◌≡◌, ◌≤◌, IfSome, ◌==◌, ◌∷◌, [], pos, not, map, option_map, option_and_then, Some, None, IfOk, MatchOption, string_bytes, codes};
+ghost use Rattle.std.specs.Prelude.{◌≡◌, ◌≤◌, IfSome, ◌==◌, ◌∷◌, [], pos, not, map, option_map, option_and_then, Some, None, IfOk, MatchOption, string_bytes, codes, length};
 ghost use Rattle.std.specs.List.{list_any, list_all};
 ghost use Rattle.std.specs.BTreeMap.{keys};
 ghost use Rattle.std.specs.Ordering.{int_eq};
@@ -10,24 +10,25 @@ ghost use Rattle.filter_core.specs.FirstPlan as spec;
 ghost use Rattle.filter_core.specs.FirstPlan.{IsFirstPlan, SaysFilter, filter_of, width_of_plan, element_of_plan, taps_of_filter, taps_at, integer_at, text_at, integers_of, only_table, has_only, is_number, is_number_or_missing, is_word, is_word_or_missing, is_few, is_filter, is_top, is_width};
 ghost use Rattle.filter_core.specs.PlanMeanings.{filter_view, plan_view};
 
-use crate::first_plan::{FirstPlan, OneFilter};
+use crate::one_filter::OneFilter;
 use crate::single_tap::single_tap;
+use chain_build::OneTap;
 use mr_values::Memory;
 use std::alloc::Global;
 use toml::{Table, Value};
 
 /// Reads a plan file. None says that it is no plan that is built.
-pub fn read_first_plan(alloc: Global, bytes: &[u8]) -> Result<Option<FirstPlan>, Memory>
+pub fn read_first_plan(alloc: Global, bytes: &[u8]) -> Result<Option<OneTap>, Memory>
     ensures { IfOk result (λ found. MatchOption found ((plan : spec.FirstPlan) → ¬ IsFirstPlan bytes.now plan) (λ plan. IsFirstPlan bytes.now (plan_view plan))) }
 {
     let Some(filter) = read_filter(alloc, bytes)? else {
         return Ok(None);
     };
     match single_tap(&filter.taps) {
-        Some(tap) => Ok(Some(FirstPlan {
+        Some(tap) => Ok(Some(OneTap {
             width: filter.width,
-            taps: filter.taps.len(),
-            place: tap.place,
+            count: filter.taps.len() as u32,
+            place: tap.place as u32,
             shift: tap.shift,
         })),
         None => Ok(None),
@@ -67,6 +68,7 @@ fn filter_of(alloc: Global, table: &Table) -> Result<Option<OneFilter>, Memory>
 fn width_of_plan(table: &Table) -> Option<u8>
     ensures value { option_map pos result ≡ width_of_plan (table_view table.now) }
     ensures wide { IfSome result (λ width. 1 ≤ width) }
+    ensures narrow { IfSome result (λ width. width ≤ 64) }
 {
     if !is_top(table) {
         return None;
@@ -115,7 +117,8 @@ fn only_table(values: &[Value]) -> Option<&Table>
 }
 
 fn taps_of_filter(alloc: Global, table: &Table) -> Result<Option<Vec<i64>>, Memory>
-    ensures { IfOk result (λ found. option_map (λ v. v.items) found ≡ taps_of_filter (table_view table.now)) }
+    ensures value { IfOk result (λ found. option_map (λ v. v.items) found ≡ taps_of_filter (table_view table.now)) }
+    ensures few { IfOk result (λ found. IfSome found (λ v. length v.items ≤ 1024)) }
 {
     if !is_filter(table) {
         return Ok(None);

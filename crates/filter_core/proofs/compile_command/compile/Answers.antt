@@ -1,7 +1,15 @@
-use Rattle.std.proofs.Common.{◌∙◌, subst, Err}
+use Rattle.std.proofs.Common.{◌≡◌, ◌∙◌, ℕ, List, Err, subst, sym, refl}
+use Rattle.mr_values.specs.Host.{HostState}
+use Rattle.mr_values.specs.Files.{Files}
+use Rattle.std.specs.FinMap.{get}
+use Rattle.std.specs.Prelude.{◌≤◌, ◌^◌, length, Some}
+use Rattle.chain_build.specs.declared.one_tap.OneTap.{OneTap}
+use Rattle.filter_core.specs.FirstPlan.{IsFirstPlan}
 use Rattle.filter_core.specs.PlanMeanings.{plan_view}
+use Rattle.filter_core.specs.Report.{report_text}
+use Rattle.filter_core.specs.Compile.{AreOutputs}
 use Rattle.filter_core.specs.WholeFiles.{WriteAnswer}
-use Rattle.filter_core.proofs.CompileSteps.{first_write, last_write, read_to_end}
+use Rattle.filter_core.proofs.CompileSteps.{outputs_of, first_write, last_write, read_to_end}
 use Rattle.filter_core.proofs.compile_command.compile.Goals as goal
 
 pub returns-in-Ok-clause-told : goal.returns-in-Ok-clause-told
@@ -15,16 +23,16 @@ returns-in-Ok-clause-told g c = λ told.
     let first = rw c.deref.ensures.value at says in
     let told' = c.in_ok-bytes.ensures.cause.same_kind ∙ told in
     let told'' = c.in-Ok.ensures.cause.same_kind ∙ told' in
-    let module_is = c.deref-2.ensures.value ∙ c.in_ok-module.ensures in
-    let lines_is = c.deref-in-Ok.ensures.value ∙ c.in_ok-lines.ensures in
     let written = c.in-Ok.ensures.told told' in
     let last = c.write_file-in-Ok.ensures.told told'' in
     let ended = read_to_end c.args.plan.now old read new reading.files reading.input reading.end (last.input ∙ written.input) (last.place ∙ written.place) in
-    last_write c.args.plan.now c.args.text.now c.args.report.now (plan_view c.in-Some.found) c.write_file-in-Ok.result old middle new
-    (record { bytes = c.in_ok-bytes.bytes.items; there = reading.answer.0; short = reading.answer.1; first = first })
+    let text = c.in_ok-module.module.items in
+    let lines = c.in_ok-lines.lines.items in
+    let outputs = outputs_of c.args.plan.now old.files c.in_ok-bytes.bytes.items text lines c.in-Some.found reading.answer.0 reading.answer.1 first c.in_ok-module.ensures c.in_ok-lines.ensures in
+    last_write c.args.plan.now c.args.text.now c.args.report.now text lines c.write_file-in-Ok.result old middle new outputs
     ended
-    (written.answer ∙ rw (reading.files, module_is))
-    (subst (λ bytes. WriteAnswer c.args.report.now bytes c.write_file-in-Ok.result middle.files new.files) lines_is last.answer)
+    (written.answer ∙ rw (reading.files, c.deref-2.ensures.value) refl)
+    (subst (λ bytes. WriteAnswer c.args.report.now bytes c.write_file-in-Ok.result middle.files new.files) c.deref-in-Ok.ensures.value last.answer)
 
 pub returns-clause-told : goal.returns-clause-told
 returns-clause-told g c = λ told.
@@ -35,8 +43,9 @@ returns-clause-told g c = λ told.
     let says = rw c.in-Some.is at c.in_ok-found.ensures in
     let first = rw c.deref.ensures.value at says in
     let told' = c.in_ok-bytes.ensures.cause.same_kind ∙ told in
-    let module_is = c.deref-2.ensures.value ∙ c.in_ok-module.ensures in
-    first_write c.args.plan.now c.args.text.now c.args.report.now (plan_view c.in-Some.found) c.in-Err.fault old read new
-    (record { bytes = c.in_ok-bytes.bytes.items; there = reading.answer.0; short = reading.answer.1; first = first })
+    let text = c.in_ok-module.module.items in
+    let lines = c.in_ok-lines.lines.items in
+    let outputs = outputs_of c.args.plan.now old.files c.in_ok-bytes.bytes.items text lines c.in-Some.found reading.answer.0 reading.answer.1 first c.in_ok-module.ensures c.in_ok-lines.ensures in
+    first_write c.args.plan.now c.args.text.now c.args.report.now text lines c.in-Err.fault old read new outputs
     reading.files
-    (subst (λ bytes. WriteAnswer c.args.text.now bytes (Err c.in-Err.fault) read.files new.files) module_is (c.in-Err.ensures.told told').answer)
+    (subst (λ bytes. WriteAnswer c.args.text.now bytes (Err c.in-Err.fault) read.files new.files) c.deref-2.ensures.value (c.in-Err.ensures.told told').answer)
