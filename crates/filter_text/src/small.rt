@@ -1,6 +1,6 @@
 // A net in memory is small.
 ghost use Rattle.std.specs.Prelude.{◌≡◌};
-ghost use Rattle.filter_text.specs.Small.{AreSmall};
+ghost use Rattle.net_text.specs.Small.{AreSmall};
 
 use net_graph::Netlist;
 

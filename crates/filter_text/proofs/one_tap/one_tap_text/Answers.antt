@@ -9,7 +9,7 @@ use Rattle.net_module.specs.Written.{written_module}
 use Rattle.net_module.proofs.Outputs.{shows_as}
 use Rattle.filter_text.proofs.OneTapWritable.{one_tap_writable}
 use Rattle.filter_text.proofs.OneTapShows.{one_tap_shows}
-use Rattle.filter_text.proofs.WritableModule.{writable, in_order}
+use Rattle.net_text.proofs.Writable.{has_text, in_order}
 use Rattle.filter_text.proofs.one_tap.one_tap_text.Goals as goal
 
 if_ok : {A E : Type 0} (P Q : A → Type 0) → ((x : A) → P x → Q x) → (r : Result A E) → IfOk r P → IfOk r Q
@@ -22,14 +22,14 @@ module_of-requires-clause-writable c = one_tap_writable _ _ _ _ _ _ _ _ c.args.p
 pub text_of-requires : goal.text_of-requires
 text_of-requires c =
     subst (λ (d : Design). IsWritable limits d) (sym c.in_ok-module.ensures)
-    (writable c.in_ok-built.built.net c.in_ok-built.ensures.netlist (one_tap_writable _ _ _ _ _ _ _ _ c.args.plan.narrow c.in_ok-built.ensures) c.nets_are_small.ensures)
+    (has_text c.in_ok-built.built.net c.in_ok-built.ensures.netlist (one_tap_writable _ _ _ _ _ _ _ _ c.args.plan.narrow c.in_ok-built.ensures) c.nets_are_small.ensures)
 
 pub returns : goal.returns
 returns c =
     let cells = c.in_ok-built.built.net in
     let net = c.in_ok-built.ensures in
     let can = one_tap_writable _ _ _ _ _ _ _ _ c.args.plan.narrow net in
-    let same = c.text_of.ensures.same (subst (λ (d : Design). IsInOrder d) (sym c.in_ok-module.ensures) (in_order cells)) in
+    let same = c.text_of.ensures.same (subst (λ (d : Design). IsInOrder d) (sym c.in_ok-module.ensures) (in_order cells net.netlist can)) in
     if_ok _ _
     (λ text read taps one form. record {
       design = read.0;
