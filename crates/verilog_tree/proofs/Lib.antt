@@ -8,3 +8,4 @@ pub mod OneSettling
 pub mod BitNumbers
 pub mod Computes
 pub mod Resets
+mod WorkedRows
