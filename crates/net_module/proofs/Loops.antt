@@ -1,5 +1,5 @@
 -- One node more is written.
-use Rattle.std.proofs.Common.{◌≡◌, ℕ, zero, suc, ◌+◌, ◌<◌, ◌≤◌, ◌^◌, Bool, true, false, not, cond, List, [], ◌∷◌, ◌++◌, length, map, drop, Option, None, Some, slice_get, refl, sym, ◌∙◌, ap, arith, subst, ◌⊎◌, inl, inr, append_assoc, append-nil, length-append, drop-cons, add-one}
+use Rattle.std.proofs.Common.{◌≡◌, ℕ, zero, suc, ◌+◌, ◌<◌, ◌≤◌, Bool, true, false, not, cond, List, [], ◌∷◌, ◌++◌, length, map, drop, Option, None, Some, slice_get, refl, sym, ◌∙◌, ap, arith, ◌⊎◌, inl, inr, append_assoc, append-nil, length-append, drop-cons, add-one}
 use Rattle.std.specs.Prelude.{slice_index}
 use Rattle.std.proofs.lemmas.Bool.{cases_lt}
 use Rattle.std.proofs.lemmas.List.{get_or_past}
@@ -18,7 +18,6 @@ use Rattle.verilog_tree.specs.declared.tree.Signal.{Signal}
 use Rattle.verilog_tree.specs.Tree.{Name, Assignment, Action}
 use Rattle.verilog_tree.specs.View.{assignment_view, action_view}
 use Rattle.net_module.specs.Written.{head_texts, ports, input_place, output_place, valid_place, written_module, is_wire, is_register, unless, own_number, number_after, number_in, number_of, node_text, node_texts, node_signal, node_signals, node_assigns, node_blocks}
-use Rattle.net_module.specs.Small.{IsSmall, AreSmall}
 use Rattle.net_module.specs.Loops.{Listed, AddsNode, IsDeclaredTo, Declares, listed_number, AddsDriver, IsDrivenTo, Drives, IsHead}
 
 left : (cells : List Cell) (p : ℕ) → p < length cells → drop p cells ≡ cell_at cells p ∷ drop (p + 1) cells
@@ -201,18 +200,3 @@ whole cells old new width_in width_out now_assigns new_assigns now_blocks new_bl
       drives.blocks ∙ ap (λ (bs : List Action). bs ++ node_blocks (listed_number new.numbers) cells 0) head.blocks
           ∙ ap (λ (f : ℕ → ℕ). node_blocks f cells 0) same,
     )
-
--- ---- small numbers
-
-pub small_more : (cells : List Cell) (p : ℕ) → ((k : ℕ) → k < p → IsSmall (cell_at cells k)) → IsSmall (cell_at cells p) → (k : ℕ) → k < p + 1 → IsSmall (cell_at cells k)
-small_more cells p before here k lt = by (cases_lt k p)
-  where
-    by : (k < p) ⊎ (p ≤ k) → IsSmall (cell_at cells k)
-    by (inl less) = before k less
-    by (inr more) = subst (λ (n : ℕ). IsSmall (cell_at cells n)) (let e : p ≡ k = omega arith in e) here
-
-pub small_all : (cells : List Cell) (n : ℕ) → length cells < 2 ^ 64 → length cells ≤ n → ((k : ℕ) → k < n → IsSmall (cell_at cells k)) → AreSmall cells
-small_all cells n places le each = record {
-  places = places;
-  each = λ place cell at. subst IsSmall (cell_at-is cells place cell at) (each place (omega (arith, slice_get_within cells place cell at)));
-}

@@ -8,7 +8,6 @@ ghost use Rattle.verilog_tree.specs.View.{assignment_view, design_view};
 ghost use Rattle.net_module.specs.Written.{IsWritable, has_kind, input_place, is_output_kind, is_register, is_valid_kind, kind_for, output_place, valid_place, ports, head_texts, number_of, written_module};
 ghost use Rattle.net_module.specs.Loops.{AddsNode, AddsDriver, Declares, Drives, IsHead};
 ghost use Rattle.net_module.specs.Listed.{listed};
-ghost use Rattle.net_module.specs.Small.{IsSmall, AreSmall};
 
 use crate::expression::{CE, IN_DATA, OUT_DATA, OUT_VALID, RST, block_of, expression_of};
 use crate::text::node_text;
@@ -52,7 +51,6 @@ fn cell_of(net: &Netlist, place: usize) -> Cell
     requires { place < length net.now }
     ensures cell { result ≡ cell_at net.now place }
     ensures bound { IsSome result.item }
-    ensures small { IsSmall result }
 {
     let node = net.node(place);
     Cell {
@@ -161,8 +159,7 @@ fn declare_node(alloc: Global, lists: &mut Lists, place: usize, cell: Cell) -> R
 fn declare_nodes(alloc: Global, net: &Netlist, lists: &mut Lists) -> Result<(), Memory>
     requires seven { length lists.old.names.items ≡ 7 }
     requires none { lists.old.numbers.items ≡ [] }
-    ensures lists { OnOk result (Declares net.now (listed lists.old) (listed lists.new)) }
-    ensures small { OnOk result (AreSmall net.now) }
+    ensures { OnOk result (Declares net.now (listed lists.old) (listed lists.new)) }
 {
     for place in 0..net.len() {
         declare_node(alloc, lists, place, cell_of(net, place))?;
@@ -314,8 +311,7 @@ fn head_drivers(
 pub fn module_of(alloc: Global, net: &Netlist) -> Result<Module, Memory>
     requires netlist { IsNetlist net.now }
     requires writable { IsWritable net.now }
-    ensures written { IfOk result (λ m. design_view m ≡ written_module net.now) }
-    ensures small { OnOk result (AreSmall net.now) }
+    ensures { IfOk result (λ m. design_view m ≡ written_module net.now) }
 {
     let input = find_input(net);
     let output = find_output(net);

@@ -1,6 +1,6 @@
 -- The names of a written module are different names of the grammar.
 use Rattle.std.proofs.Common.{◌≡◌, ℕ, suc, ◌+◌, ◌<◌, ◌^◌, Bool, true, false, ◌&&◌, cond, List, [], ◌∷◌, ◌++◌, length, Option, None, Some, slice_get, refl, sym, ◌∙◌, ap, arith, subst, ◌⊎◌, inl, inr}
-use Rattle.std.specs.Prelude.{nat_eq, codes, bytes_eq, IfSome}
+use Rattle.std.specs.Prelude.{nat_eq, codes, bytes_eq}
 use Rattle.std.specs.Fmt.{decimal}
 use Rattle.std.proofs.lemmas.Bool.{eqb-true, false_from_ne_true}
 use Rattle.std.proofs.lemmas.Option.{slice_get_within}
@@ -17,7 +17,7 @@ use Rattle.verilog_text.specs.Lexer.{words}
 use Rattle.verilog_text.specs.Layout.{IsName}
 use Rattle.verilog_text.specs.Shortest.{AllFormed}
 use Rattle.net_module.specs.Written.{unless, nameless, text_for, node_text, node_texts, written_module}
-use Rattle.net_module.specs.Small.{AreSmall}
+use Rattle.net_text.specs.Small.{AreSmall}
 use Rattle.net_text.proofs.Spelled.{Shape, Ctl, CtlNode, InGroup, OutQ, shape_text, IsSmallShape, shape_name, shape_same}
 
 false_true : false ≡ true → ⊥
@@ -211,10 +211,10 @@ module _ (cells : List Cell) (netlist : IsNetlist cells) (small : AreSmall cells
       by cell.name refl inside
     where
       by : (name : Option Name) → cell.name ≡ name → place < 2 ^ 64 → IsSmallShape (shape_for name cell.group place)
-      by None e inside = nameless_small cell.group place (small.each place cell at).group inside
+      by None e inside = nameless_small cell.group place (small.groups place cell at) inside
       by (Some name) e inside =
-          let own = subst (λ (o : Option Name). IfSome o (λ n. (n.group < 2 ^ 64) × (n.number < 2 ^ 64))) e (small.each place cell at).name in
-          kind_small name.kind name.group name.number cell.group place own.0 own.1 (small.each place cell at).group inside
+          let own = small.names place cell name at e in
+          kind_small name.kind name.group name.number cell.group place own.0 own.1 (small.groups place cell at) inside
 
   text_apart : (j k : ℕ) (c d : Cell) → slice_get cells j ≡ Some c → slice_get cells k ≡ Some d → node_text c j ≡ node_text d k → j ≡ k
   text_apart j k c d at found same =

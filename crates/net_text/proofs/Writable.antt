@@ -22,7 +22,7 @@ use Rattle.net_module.proofs.Cycles.{register_is}
 use Rattle.net_module.proofs.Outputs.{valid_there, output_there}
 use Rattle.net_module.proofs.PassesUses.{IsRest, rest_more, rest_here, rest_all}
 use Rattle.net_module.proofs.PassesRest.{in_range, out_range}
-use Rattle.net_module.specs.Small.{AreSmall}
+use Rattle.net_text.specs.Small.{AreSmall}
 use Rattle.net_text.proofs.Names.{distinct, all_named}
 
 false_true : false ≡ true → ⊥

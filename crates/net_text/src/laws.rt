@@ -7,7 +7,7 @@ ghost use Rattle.verilog_text.specs.Grammar.{limits};
 ghost use Rattle.verilog_text.specs.Shortest.{IsWritable as HasText};
 ghost use Rattle.verilog_text.specs.Order.{IsInOrder};
 ghost use Rattle.net_module.specs.Written.{IsWritable, written_module};
-ghost use Rattle.net_module.specs.Small.{AreSmall};
+ghost use Rattle.net_text.specs.Small.{AreSmall};
 
 /// The module that is written for a net whose numbers are those of a machine has a text, in which its names are numbered in the
 /// order in which they first appear.

@@ -6,8 +6,8 @@ use Rattle.net_module.specs.Listed.{listed}
 use Rattle.net_module.proofs.Loops.{whole}
 use Rattle.net_module.proofs.write.module_of.Goals as goal
 
-pub returns-clause-written : goal.returns-clause-written
-returns-clause-written c =
+pub returns : goal.returns
+returns c =
     let cells = c.args.net.now in
     let assigns = c.in_ok-drivers.drivers.assigns.items in
     let blocks = c.in_ok-drivers.drivers.blocks.items in
@@ -18,7 +18,7 @@ returns-clause-written c =
     let drives = subst (λ (ns : List ℕ). Drives ns cells assigns c.drive_nodes.new.drivers.assigns.items blocks c.drive_nodes.new.drivers.blocks.items) c.deref-2.ensures.value c.in_ok-drive_nodes.ensures in
     let parts = whole cells (listed c.in_ok-lists.lists) (listed c.declare_nodes.new.lists) c.width.result c.width-2.result
     c.in_ok-drivers.drivers.assigns.items c.drive_nodes.new.drivers.assigns.items c.in_ok-drivers.drivers.blocks.items c.drive_nodes.new.drivers.blocks.items
-    c.in_ok-lists.ensures c.in_ok-declare_nodes.ensures.lists
+    c.in_ok-lists.ensures c.in_ok-declare_nodes.ensures
     (c.width.ensures.width ∙ ap (λ (p : ℕ). (cell_at cells p).width) c.find_input-input.ensures.place)
     (c.width-2.ensures.width ∙ ap (λ (p : ℕ). (cell_at cells p).width) c.find_output-output.ensures.place)
     head drives in
