@@ -1,13 +1,14 @@
 -- The non-adjacent form: its sum, its length, and that no two of its places are neighbours.
-use Rattle.std.proofs.Common.{◌≡◌, ℕ, zero, suc, ◌+◌, ◌*◌, ◌/◌, ◌%◌, ◌^◌, ◌≤◌, arith, refl, ap, ◌∙◌, Bool, true, false, ltb, List, ◌∷◌, length, ℤ, pos, negsuc}
-use Rattle.std.specs.Prelude.{not, ◌==◌, All}
+use Rattle.std.proofs.Common.{◌≡◌, ℕ, zero, suc, ◌+◌, ◌*◌, ◌/◌, ◌%◌, ◌^◌, ◌≤◌, arith, refl, ap, ◌∙◌, Bool, true, false, ltb, List, [], ◌∷◌, length, ℤ, pos, negsuc}
+use Rattle.std.specs.Prelude.{not, ◌==◌, All, count_by, cond}
+use Rattle.std.proofs.lemmas.List.Sums.{sum_by-cons}
 use mathlib.Core.Bool.{beq}
 use Rattle.std.proofs.lemmas.Int.{ints}
 use Rattle.std.proofs.Math.Nat.{pow-suc}
 use Rattle.std.specs.Prelude.{unsigned_abs}
 use Rattle.std.specs.Int.{is_negative}
 use Rattle.mr_values.specs.declared.digit.Digit.{Digit}
-use Rattle.mr_values.specs.Digit.{with_sign, total, rest_of, rest_by, with_digit, digits_to, digits_from, non_adjacent, with_one, count_to, digit_count, IsWeight, AreApart}
+use Rattle.mr_values.specs.Digit.{with_sign, total, rest_of, rest_by, with_digit, digits_to, digits_from, non_adjacent, with_one, count_to, digit_count, positive_count, negative_count, IsWeight, AreApart}
 use Rattle.mr_values.proofs.DigitCounts.{ByFour, even, one, three, by_four, rest_of-below}
 use Rattle.mr_values.proofs.LeastWeight.{digit_count-total}
 
@@ -76,6 +77,21 @@ total-non_adjacent c = total-digits_to (unsigned_abs c) (is_negative c) 0 (unsig
     sign : (c : ℤ) → with_sign (is_negative c) (unsigned_abs c * 2 ^ 0) ≡ c
     sign (pos n) = let not_below : ltb n 0 ≡ false = grind arith in rw not_below (omega (arith, ints))
     sign (negsuc n) = omega (arith, ints)
+
+-- each digit is positive or negative
+count_by_sign : (ds : List Digit) → count_by (λ d. not d.negative) ds + count_by (λ d. d.negative) ds ≡ length ds
+count_by_sign [] = refl
+count_by_sign (d ∷ ds) =
+    let positive = sum_by-cons (λ (e : Digit). cond (not e.negative) 1 0) d ds in
+    let negative = sum_by-cons (λ (e : Digit). cond e.negative 1 0) d ds in
+    omega (arith, positive, negative, one d.negative, count_by_sign ds)
+  where
+    one : (b : Bool) → cond (not b) 1 0 + cond b 1 0 ≡ 1
+    one true = refl
+    one false = refl
+
+pub digit_count-signs : (c : ℤ) → positive_count c + negative_count c ≡ digit_count c
+digit_count-signs c = count_by_sign (non_adjacent c) ∙ length-non_adjacent c
 
 -- the count is the weight
 pub IsWeight-digit_count : (c : ℤ) → IsWeight c (digit_count c)

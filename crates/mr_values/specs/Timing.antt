@@ -15,13 +15,13 @@ use Rattle.mr_values.specs.Digit.{positive_count, negative_count, digit_count}
 abbrev pub ceil_div : ℕ → ℕ → ℕ
 ceil_div n d = (n + (d - 1)) / d
 
--- the least k with n ≤ 2 ^ k, where n is below 2 ^ fuel
+-- the least k with n ≤ 2 ^ k, where n is at most the fuel
 abbrev pub ceil_log_to : ℕ → ℕ → ℕ
 ceil_log_to zero n = 0
 ceil_log_to (suc fuel) n = if nat_le n 1 then 0 else suc (ceil_log_to fuel ((n + 1) / 2))
 
 abbrev pub ceil_log : ℕ → ℕ
-ceil_log n = ceil_log_to 32 n
+ceil_log n = ceil_log_to n n
 
 -- how many bits n has
 abbrev pub bit_length_to : ℕ → ℕ → ℕ
@@ -109,8 +109,9 @@ pub record Stream : Type 0 where
   pub low : ℤ
   pub high : ℤ
 
-abbrev pub wide : Stream → ℕ
-wide s = max (signed_bits s.low) (signed_bits s.high)
+-- the least width that holds both
+abbrev pub wide : ℤ → ℤ → ℕ
+wide low high = max (signed_bits low) (signed_bits high)
 
 -- the accumulators of a folded filter
 abbrev pub accumulators : ℕ → ℕ → List ℤ → ℕ
@@ -121,24 +122,52 @@ form_delay Parallel factor taps s = 1 + ceil_log (greatest terms factor taps)
 form_delay Symmetric factor taps s = 2 + ceil_log (terms (take (ceil_div (length taps) 2) taps))
 form_delay HalfBand factor taps s = 2 + ceil_log (terms (take (ceil_div (length taps) 2) taps))
 form_delay (Folded slots) factor taps s = 2 + size slots + ceil_log (accumulators (size slots) factor taps)
-form_delay (Distributed group) factor taps s = 2 + wide s + ceil_log (ceil_div (length taps) (size group))
+form_delay (Distributed group) factor taps s = 2 + wide s.low s.high + ceil_log (ceil_div (length taps) (size group))
+
+-- the factors of a group, 1 where there is none
+abbrev pub up_factor : Group → ℕ
+up_factor (Fir up filter down) = unwrap_or up 1
+up_factor (DownCic factor stages delay) = 1
+up_factor (UpCic factor stages delay) = factor
+up_factor (Rounding shift mode) = 1
+
+abbrev pub down_factor : Group → ℕ
+down_factor (Fir up filter down) = unwrap_or down 1
+down_factor (DownCic factor stages delay) = factor
+down_factor (UpCic factor stages delay) = 1
+down_factor (Rounding shift mode) = 1
+
+-- the period after a group, from the period before it
+abbrev pub period_after : Group → ℕ → ℕ
+period_after g period = period * down_factor g / up_factor g
+
+abbrev pub group_delay : Group → Stream → ℕ
+group_delay (Fir up filter down) s = form_delay (form_of filter) (unwrap_or up 1) (taps_of filter) s
+group_delay (DownCic factor stages delay) s = (stages - 1) * s.period + 1 + stages
+group_delay (UpCic factor stages delay) s = stages + (stages - 1) * period_after (UpCic factor stages delay) s.period + 1
+group_delay (Rounding shift mode) s = 1
+
+-- the least and the greatest value after a group, from those before it
+abbrev pub low_after : Group → ℤ → ℤ → ℤ
+low_after (Fir up filter down) low high = low_end (taps_of filter) low high
+low_after (DownCic factor stages delay) low high = pos ((factor * delay) ^ stages) *ℤ low
+low_after (UpCic factor stages delay) low high = pos ((factor * delay) ^ stages) *ℤ low
+low_after (Rounding shift mode) low high = round_value mode shift low
+
+abbrev pub high_after : Group → ℤ → ℤ → ℤ
+high_after (Fir up filter down) low high = high_end (taps_of filter) low high
+high_after (DownCic factor stages delay) low high = pos ((factor * delay) ^ stages) *ℤ high
+high_after (UpCic factor stages delay) low high = pos ((factor * delay) ^ stages) *ℤ high
+high_after (Rounding shift mode) low high = round_value mode shift high
 
 -- the stream after a group
 abbrev pub after : Group → Stream → Stream
-after (Fir up filter down) s =
-    let l = unwrap_or up 1 in
-    record {
-      period = s.period * unwrap_or down 1 / l;
-      offset = s.offset + form_delay (form_of filter) l (taps_of filter) s;
-      low = low_end (taps_of filter) s.low s.high;
-      high = high_end (taps_of filter) s.low s.high;
-    }
-after (DownCic factor stages delay) s =
-    record { period = s.period * factor; offset = s.offset + ((stages - 1) * s.period + 1 + stages); low = pos ((factor * delay) ^ stages) *ℤ s.low; high = pos ((factor * delay) ^ stages) *ℤ s.high }
-after (UpCic factor stages delay) s =
-    record { period = s.period / factor; offset = s.offset + (stages + (stages - 1) * (s.period / factor) + 1); low = pos ((factor * delay) ^ stages) *ℤ s.low; high = pos ((factor * delay) ^ stages) *ℤ s.high }
-after (Rounding shift mode) s =
-    record { period = s.period; offset = s.offset + 1; low = round_value mode shift s.low; high = round_value mode shift s.high }
+after g s = record {
+  period = period_after g s.period;
+  offset = s.offset + group_delay g s;
+  low = low_after g s.low s.high;
+  high = high_after g s.low s.high;
+}
 
 abbrev pub after_all : List Group → Stream → Stream
 after_all [] s = s

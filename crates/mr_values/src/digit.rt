@@ -1,6 +1,6 @@
 //! Signed powers of two, and the least number of them that sum to a number.
 
-ghost use Rattle.std.specs.Prelude.{◌≡◌, ◌<◌, ◌^◌, length, sum_by};
+ghost use Rattle.std.specs.Prelude.{◌≡◌, ◌<◌, ◌≤◌, ◌*◌, ◌^◌, length, sum_by};
 ghost use Rattle.mr_values.specs.Digit.{total, AreApart, IsWeight, non_adjacent, digit_count, positive_count, rest_of};
 ghost use Rattle.mr_values.specs.Sequence.{phase as taps_of_phase};
 
@@ -37,7 +37,8 @@ pub fn digits(c: i64) -> Digits
 
 /// How many digits of `c` are positive.
 pub fn positive_digits(c: i64) -> usize
-    ensures { result ≡ positive_count c }
+    ensures value { result ≡ positive_count c }
+    ensures small { result ≤ 64 }
 {
     let digits = digits(c);
     digits
@@ -67,13 +68,33 @@ fn above_digit(n: u64) -> u64
 pub fn count_terms(taps: &[i64], up: u32, phase: u32) -> u64
     requires in_range { phase < up }
     requires few { length taps.now < 2 ^ 32 }
-    ensures { result ≡ sum_by digit_count (taps_of_phase up phase taps.now) }
+    ensures value { result ≡ sum_by digit_count (taps_of_phase up phase taps.now) }
+    ensures small { result ≤ 255 * length taps.now }
 {
     let mut count = 0;
     let mut wait = phase;
     for tap in taps {
         if wait == 0 {
             count += u64::from(weight(*tap));
+            wait = up;
+        }
+        wait -= 1;
+    }
+    count
+}
+
+/// How many positive terms the taps `h[phase]`, `h[phase + up]`, .. have.
+pub fn count_positive_terms(taps: &[i64], up: u32, phase: u32) -> u64
+    requires in_range { phase < up }
+    requires few { length taps.now < 2 ^ 32 }
+    ensures value { result ≡ sum_by positive_count (taps_of_phase up phase taps.now) }
+    ensures small { result ≤ 255 * length taps.now }
+{
+    let mut count = 0;
+    let mut wait = phase;
+    for tap in taps {
+        if wait == 0 {
+            count += positive_digits(*tap) as u64;
             wait = up;
         }
         wait -= 1;

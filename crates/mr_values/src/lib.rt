@@ -13,7 +13,7 @@ mod text;
 mod value;
 mod width;
 
-pub use digit::{Digit, count_terms, digits, positive_digits, weight};
+pub use digit::{Digit, count_positive_terms, count_terms, digits, positive_digits, weight};
 pub use digit_list::Digits;
 pub use host::{Failed, FaultCounts, Host, HostCall, OutFail};
 pub use memory::Memory;

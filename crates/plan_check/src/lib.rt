@@ -1,6 +1,18 @@
 //! Which plans are accepted, and the numbers that an accepted plan determines.
 #![tactic(auto)]
 
+mod amounts;
+mod costs;
+mod delays;
+mod facts;
 mod fault;
+mod flow;
+mod forms;
+mod group;
+mod limits;
+mod rates;
+mod terms;
 
+pub use facts::{Facts, GroupFacts};
 pub use fault::{CostWhich, LimitWhich, PlanFault};
+pub use group::{FirFilter, PlanGroup, split_group};

@@ -1,0 +1,12 @@
+pub mod Divisors
+pub mod Ends
+pub mod GroupSplit
+pub mod LeastBits
+pub mod Logarithm
+pub mod Mirrors
+pub mod Narrow
+pub mod Options
+pub mod Products
+pub mod Sums
+pub mod TermSums
+pub mod Walks

@@ -1,0 +1,84 @@
+-- How great the values of a plan and their rounding errors become.
+-- Crochiere and Rabiner, Multirate Digital Signal Processing, 2.3; Hogenauer 1981, II (the gain of a CIC).
+use Rattle.std.specs.Prelude.{ℕ, ◌+◌, ◌-◌, ◌*◌, ◌/◌, ◌^◌, List, [], ◌∷◌, ℤ, pos, negsuc, unsigned_abs, Option, None, Some, nat_le, ◌==◌, ◌%◌, if◌then◌else◌}
+use Rattle.mr_values.specs.declared.plan.Mode.{Mode}
+use Rattle.mr_values.specs.declared.plan.Mode.TheVariants.{HalfUp, Floor}
+use Rattle.mr_values.specs.Timing.{Group, Fir, DownCic, UpCic, Rounding, taps_of, ceil_div, up_factor, down_factor, period_after}
+use Rattle.plan_check.specs.declared.fault.PlanFault.{PlanFault}
+use Rattle.plan_check.specs.declared.fault.PlanFault.TheVariants.{RateNotWhole, PeriodOver, TooWide, BoundTooWide}
+use Rattle.plan_check.specs.Groups.{size_of, last_of, middle_of}
+
+-- ---- rates
+
+-- The period p * M / L is whole, and at most 2 ^ 31 - 1. An Up stands first in its group, and a Down last.
+abbrev pub rate_test : ℕ → ℕ → Group → Option PlanFault
+rate_test first period g =
+    if period * down_factor g % up_factor g == 0
+    then (if nat_le (period_after g period) (2 ^ 31 - 1) then None else Some (PeriodOver (last_of first g) (period_after g period)))
+    else Some (RateNotWhole first)
+
+-- ---- the peak: no value has a greater magnitude
+
+-- the sum of the taps above 0, and of the magnitudes of those below 0
+abbrev pub rises : List ℤ → ℕ
+rises [] = 0
+rises (pos n ∷ cs) = n + rises cs
+rises (negsuc n ∷ cs) = rises cs
+
+abbrev pub falls : List ℤ → ℕ
+falls [] = 0
+falls (pos n ∷ cs) = falls cs
+falls (negsuc n ∷ cs) = (n + 1) + falls cs
+
+-- the sum of the magnitudes
+abbrev pub magnitude : List ℤ → ℕ
+magnitude [] = 0
+magnitude (c ∷ cs) = unsigned_abs c + magnitude cs
+
+-- how much a group can magnify; a rounding magnifies nothing
+abbrev pub gain : Group → ℕ
+gain (Fir up filter down) = magnitude (taps_of filter)
+gain (DownCic factor stages delay) = (factor * delay) ^ stages
+gain (UpCic factor stages delay) = (factor * delay) ^ stages
+gain (Rounding shift mode) = 1
+
+abbrev pub round_peak : Mode → ℕ → ℕ → ℕ
+round_peak HalfUp shift peak = (peak + 2 ^ (shift - 1)) / 2 ^ shift
+round_peak Floor shift peak = ceil_div peak (2 ^ shift)
+
+abbrev pub peak_after : Group → ℕ → ℕ
+peak_after (Fir up filter down) peak = peak * gain (Fir up filter down)
+peak_after (DownCic factor stages delay) peak = peak * gain (DownCic factor stages delay)
+peak_after (UpCic factor stages delay) peak = peak * gain (UpCic factor stages delay)
+peak_after (Rounding shift mode) peak = round_peak mode shift peak
+
+-- a group without a Filter keeps the peak
+abbrev pub peak_test : ℕ → ℕ → Group → Option PlanFault
+peak_test first peak g = if nat_le (peak_after g peak) (2 ^ 125) then None else Some (TooWide (middle_of first g))
+
+-- ---- the bound: how far 2 ^ shift times a value is from the value without roundings
+
+pub record RoundingError : Type 0 where
+  pub bound : ℕ
+  pub shift : ℕ
+
+-- how far one rounding is off
+abbrev pub round_error : Mode → ℕ → ℕ
+round_error HalfUp shift = 2 ^ (shift - 1)
+round_error Floor shift = 2 ^ shift - 1
+
+abbrev pub error_after : Group → RoundingError → RoundingError
+error_after (Fir up filter down) e = record { bound = e.bound * gain (Fir up filter down); shift = e.shift }
+error_after (DownCic factor stages delay) e = record { bound = e.bound * gain (DownCic factor stages delay); shift = e.shift }
+error_after (UpCic factor stages delay) e = record { bound = e.bound * gain (UpCic factor stages delay); shift = e.shift }
+error_after (Rounding shift mode) e = record { bound = e.bound + 2 ^ e.shift * round_error mode shift; shift = e.shift + shift }
+
+abbrev pub error_after_all : List Group → RoundingError → RoundingError
+error_after_all [] e = e
+error_after_all (g ∷ gs) e = error_after_all gs (error_after g e)
+
+abbrev pub no_error : RoundingError
+no_error = record { bound = 0; shift = 0 }
+
+abbrev pub bound_test : ℕ → RoundingError → Group → Option PlanFault
+bound_test first e g = if nat_le (error_after g e).bound (2 ^ 125) then None else Some (BoundTooWide (middle_of first g))

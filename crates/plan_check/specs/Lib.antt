@@ -1,0 +1,7 @@
+pub mod Limits
+pub mod Groups
+pub mod Amounts
+pub mod Forms
+pub mod Costs
+pub mod Accepted
+pub mod Views

@@ -1,0 +1,21 @@
+-- What structs of the code are to a contract.
+use Rattle.plan_check.specs.declared.amounts.RoundingError.{RoundingError as ErrorOfCode}
+use Rattle.plan_check.specs.declared.flow.PlanFlow.{PlanFlow}
+use Rattle.plan_check.specs.declared.costs.PlanSpread.{PlanSpread}
+use Rattle.plan_check.specs.Forms.{Flow}
+use Rattle.plan_check.specs.Costs.{Spread}
+use Rattle.plan_check.specs.Amounts.{RoundingError}
+use Rattle.std.specs.Prelude.{ℕ}
+use Rattle.mr_values.specs.Timing.{Stream}
+
+abbrev pub as_error : ErrorOfCode → RoundingError
+as_error error = record { bound = error.bound; shift = error.shift }
+
+abbrev pub as_flow : PlanFlow → Flow
+as_flow flow = record { period = flow.period; low = flow.low; high = flow.high }
+
+abbrev pub as_stream : PlanFlow → ℕ → Stream
+as_stream flow offset = record { period = flow.period; offset = offset; low = flow.low; high = flow.high }
+
+abbrev pub as_spread : PlanSpread → Spread
+as_spread spread = record { classes = spread.classes; reach = spread.reach }
