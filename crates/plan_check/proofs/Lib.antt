@@ -10,3 +10,6 @@ pub mod Products
 pub mod Sums
 pub mod TermSums
 pub mod Walks
+pub mod LimitFacts
+pub mod Tallies
+pub mod Acceptance

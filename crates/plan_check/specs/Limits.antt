@@ -1,11 +1,12 @@
 -- The limits of the numbers of a plan, and the first number outside them.
-use Rattle.std.specs.Prelude.{ℕ, suc, ◌^◌, List, [], ◌∷◌, length, Option, None, Some, ◌&&◌, if◌then◌else◌, ℤ, pos, neg_ℤ, int_le}
+use Rattle.std.specs.Prelude.{ℕ, suc, ◌^◌, List, [], ◌∷◌, length, Option, None, Some, ◌&&◌, if◌then◌else◌, ℤ, pos, neg_ℤ, int_le, ◌≤ℤ◌, ◌≤◌, All}
 use Rattle.std.specs.Option.{option_or}
 use Rattle.mr_values.specs.declared.plan.Element.{Element}
 use Rattle.mr_values.specs.declared.plan.Element.TheVariants.{Up, Down, Filter, CicDown, CicUp, Round}
 use Rattle.mr_values.specs.declared.plan.Form.{Form}
 use Rattle.mr_values.specs.declared.plan.Form.TheVariants.{Parallel, Symmetric, HalfBand, Folded, Distributed}
 use Rattle.mr_values.specs.declared.plan.Plan.{Plan}
+use Rattle.mr_values.specs.Value.{IsWithinLimits}
 use Rattle.plan_check.specs.declared.fault.LimitWhich.{LimitWhich}
 use Rattle.plan_check.specs.declared.fault.LimitWhich.TheVariants.{Width, Ticks, Elements, Factor, Stages, Delay, Taps, Tap, Slots, Group, Shift}
 use Rattle.plan_check.specs.declared.fault.PlanFault.{PlanFault}
@@ -53,3 +54,12 @@ own_test plan = option_or (limit_test 0 Width plan.width (pos 2) (pos 64)) (limi
 abbrev pub limits_test : Plan → Option PlanFault
 limits_test plan =
     option_or (own_test plan) (option_or (limit_test 0 Elements (pos (length plan.elements)) (pos 1) (pos 32)) (elements_test 1 plan.elements))
+
+-- what passing these tests says
+pub record HasLimits (plan : Plan) : Type 0 where
+  pub width_low : pos 2 ≤ℤ plan.width
+  pub width_high : plan.width ≤ℤ pos 64
+  pub ticks_low : pos 1 ≤ℤ plan.ticks
+  pub ticks_high : plan.ticks ≤ℤ pos 65536
+  pub few : length plan.elements ≤ 32
+  pub elements : All IsWithinLimits plan.elements

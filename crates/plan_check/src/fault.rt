@@ -1,4 +1,8 @@
 // Why a plan is refused.
+ghost use Rattle.std.specs.Prelude.{◌≡◌};
+ghost use Rattle.plan_check.specs.declared.fault.PlanFault.TheVariants.{Memory};
+
+use std::alloc::AllocFailed;
 use thiserror::Error;
 
 /// The number of a plan that lies outside its limits.
@@ -65,4 +69,12 @@ pub enum PlanFault {
     },
     #[error("memory ran out")]
     Memory,
+}
+
+impl<T: Drop> From<AllocFailed<T>> for PlanFault {
+    ghost from_gives = { λ _ fault. fault ≡ Memory };
+
+    fn from(_: AllocFailed<T>) -> Self {
+        PlanFault::Memory
+    }
 }

@@ -132,8 +132,8 @@ fn take_down(elements: &[Element]) -> (Option<u32>, &[Element])
     }
 }
 
-// A number of a plan within its limits.
-fn whole(number: i64) -> u32
+/// A number of a plan within its limits.
+pub(crate) fn whole(number: i64) -> u32
     requires least { pos 1 ≤ℤ number }
     requires greatest { number ≤ℤ pos 65536 }
     ensures { result ≡ size number }

@@ -1,6 +1,7 @@
 //! Which plans are accepted, and the numbers that an accepted plan determines.
 #![tactic(auto)]
 
+mod accept;
 mod amounts;
 mod costs;
 mod delays;
@@ -13,6 +14,7 @@ mod limits;
 mod rates;
 mod terms;
 
+pub use accept::check_plan;
 pub use facts::{Facts, GroupFacts};
 pub use fault::{CostWhich, LimitWhich, PlanFault};
 pub use group::{FirFilter, PlanGroup, split_group};

@@ -1,15 +1,17 @@
 // The limits of the numbers of a plan.
-ghost use Rattle.std.specs.Prelude.{◌≡◌, ◌≤◌, length, pos};
+ghost use Rattle.std.specs.Prelude.{◌≡◌, ◌≤◌, length, pos, OnOk};
 ghost use Rattle.std.specs.Result.{result_err};
-ghost use Rattle.plan_check.specs.Limits.{limit_test, taps_test, form_test, cic_test, element_test, elements_test, own_test, limits_test};
+ghost use Rattle.plan_check.specs.Limits.{limit_test, taps_test, form_test, cic_test, element_test, elements_test, own_test, limits_test, HasLimits};
 ghost use Rattle.plan_check.specs.declared.fault.LimitWhich.TheVariants.{Factor};
 
 use crate::fault::{LimitWhich, PlanFault};
 use mr_values::{Element, Form, Plan};
 
 /// Tests each number of a plan, from the left.
+#[tactic(auto, using(crate::proofs::LimitFacts::has_limits))]
 pub(crate) fn check_limits(plan: &Plan) -> Result<(), PlanFault>
-    ensures { result_err result ≡ limits_test plan.now }
+    ensures test { result_err result ≡ limits_test plan.now }
+    ensures limits { OnOk result (HasLimits plan.now) }
 {
     let elements = plan.elements.as_slice();
     check_own_numbers(plan)?;
