@@ -23,8 +23,8 @@ accepted_at plan width ticks w k limits rates peaks bounds fits costs =
     }
 
 pub accepted_from : (plan : Plan) (elements : List Element) (width ticks : ℕ) → elements ≡ plan.elements → width ≡ size plan.width → ticks ≡ size plan.ticks
-  → None ≡ limits_test plan → None ≡ rates_test ticks (groups elements) → None ≡ peaks_test width (groups elements) → None ≡ bounds_test (groups elements)
-  → None ≡ fits_test width ticks (groups elements) → costs_test width ticks (groups elements) ≡ None → IsAccepted plan
+    → None ≡ limits_test plan → None ≡ rates_test ticks (groups elements) → None ≡ peaks_test width (groups elements) → None ≡ bounds_test (groups elements)
+    → None ≡ fits_test width ticks (groups elements) → costs_test width ticks (groups elements) ≡ None → IsAccepted plan
 accepted_from plan elements width ticks e w k limits rates peaks bounds fits costs =
     accepted_at plan width ticks w k limits
     (subst (λ (es : List Element). None ≡ rates_test ticks (groups es)) e rates)

@@ -46,8 +46,7 @@ returns c =
       low_is = to_z-of_z w128 _ low_fits ∙ ap (λ (s : Stream). s.low) costs.1;
       high_is = to_z-of_z w128 _ high_fits ∙ ap (λ (s : Stream). s.high) costs.1;
       groups_are = costs.2;
-    } in
-    (
+    } in (
       accepted_from plan elements _ _ read width ticks limits rates peaks (sym bounds.0) fits costs.0,
       subst (λ (k : ℕ). AreFacts (size plan.width) k plan.elements facts) ticks (subst (λ (w : ℕ). AreFacts w c.from-ticks.result plan.elements facts) width (subst (λ (es : List Element). AreFacts c.whole-width.result c.from-ticks.result es facts) read here)),
     )
