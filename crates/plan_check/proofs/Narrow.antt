@@ -56,7 +56,7 @@ peaks_head peak (g ∷ gs) h = h.0
 
 -- ---- magnitudes
 
-triangle : (a b : ℤ) → unsigned_abs (a +ℤ b) ≤ unsigned_abs a + unsigned_abs b
+pub triangle : (a b : ℤ) → unsigned_abs (a +ℤ b) ≤ unsigned_abs a + unsigned_abs b
 triangle (pos a) (pos b) = omega (arith, ints)
 triangle (pos a) (negsuc b) = omega (arith, ints)
 triangle (negsuc a) (pos b) = omega (arith, ints)
@@ -87,7 +87,7 @@ high_end-within peak low high (c ∷ cs) h =
 scaled-within : (peak k : ℕ) (z : ℤ) → unsigned_abs z ≤ peak → unsigned_abs (pos k *ℤ z) ≤ peak * k
 scaled-within peak k z h = omega (arith, unsigned_abs-mul (pos k) z, mul-le-mul_left k h)
 
-div_mono : (a b d : ℕ) → 0 < d → a ≤ b → a / d ≤ b / d
+pub div_mono : (a b d : ℕ) → 0 < d → a ≤ b → a / d ≤ b / d
 div_mono a b d some h = le-div (a / d) b d some (omega (arith, div-mul-le_self a d))
 
 floor-within : (d peak most : ℕ) (z : ℤ) → 0 < d → unsigned_abs z ≤ peak → peak + (d - 1) ≤ most → unsigned_abs (floor_quotient z d) ≤ most / d
@@ -115,8 +115,21 @@ round-within : (mode : Mode) (shift peak : ℕ) (z : ℤ) → 1 ≤ shift → un
 round-within HalfUp shift peak z some h = half-within (2 ^ shift) (2 ^ (shift - 1)) peak z (pow_pos (shift - 1)) (pow_halves shift some) h
 round-within Floor shift peak z some h = floor-within (2 ^ shift) peak (peak + (2 ^ shift - 1)) z (pow_pos shift) h (omega arith)
 
+-- a rounding's shift is at least 1
+abbrev pub HasShift : Group → Type 0
+HasShift (Fir up filter down) = Unit {0}
+HasShift (DownCic factor stages delay) = Unit {0}
+HasShift (UpCic factor stages delay) = Unit {0}
+HasShift (Rounding shift mode) = 1 ≤ shift
+
+has_shift : (g : Group) → IsGroup g → HasShift g
+has_shift (Fir up filter down) h = tt
+has_shift (DownCic factor stages delay) h = tt
+has_shift (UpCic factor stages delay) h = tt
+has_shift (Rounding shift mode) h = h.0
+
 -- the values after a group
-pub within-after : (g : Group) (peak : ℕ) (low high : ℤ) → IsGroup g → IsWithin peak low high → IsWithin (peak_after g peak) (low_after g low high) (high_after g low high)
+pub within-after : (g : Group) (peak : ℕ) (low high : ℤ) → HasShift g → IsWithin peak low high → IsWithin (peak_after g peak) (low_after g low high) (high_after g low high)
 within-after (Fir up filter down) peak low high limits h = record {
   low_within = omega (arith, low_end-within peak low high (taps_of filter) h);
   high_within = omega (arith, high_end-within peak low high (taps_of filter) h);
@@ -130,8 +143,8 @@ within-after (UpCic factor stages delay) peak low high limits h = record {
   high_within = scaled-within peak ((factor * delay) ^ stages) high h.high_within;
 }
 within-after (Rounding shift mode) peak low high limits h = record {
-  low_within = round-within mode shift peak low limits.0 h.low_within;
-  high_within = round-within mode shift peak high limits.0 h.high_within;
+  low_within = round-within mode shift peak low limits h.low_within;
+  high_within = round-within mode shift peak high limits h.high_within;
 }
 
 -- ---- a walk over the groups
@@ -144,7 +157,7 @@ pub record IsNarrow (gs : List Group) (low high : ℤ) : Type 0 where
 pub narrow_next : (g : Group) (gs all : List Group) (low high : ℤ) → all ≡ g ∷ gs → IsGroup g → IsNarrow all low high → IsNarrow gs (low_after g low high) (high_after g low high)
 narrow_next g gs all low high e limits h =
     let fits : PeaksFit h.peak (g ∷ gs) = subst (PeaksFit h.peak) e h.fits in
-    record { peak = peak_after g h.peak; within = within-after g h.peak low high limits h.within; fits = fits.1 }
+    record { peak = peak_after g h.peak; within = within-after g h.peak low high (has_shift g limits) h.within; fits = fits.1 }
 
 gain-fits : (g : Group) (peak m : ℕ) → m ≤ peak → peak ≤ 2 ^ 125 → peak_after g peak ≤ 2 ^ 125 → gain g * m ≤ 2 ^ 125
 gain-fits (Fir up filter down) peak m h p q = omega (arith, mul-le-mul_left (magnitude (taps_of filter)) h)

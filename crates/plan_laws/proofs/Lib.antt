@@ -1,0 +1,5 @@
+pub mod Between
+pub mod Ends
+pub mod Spans
+pub mod Peaks
+pub mod Errors
