@@ -3,3 +3,4 @@ pub mod Ends
 pub mod Spans
 pub mod Peaks
 pub mod Errors
+pub mod Reach

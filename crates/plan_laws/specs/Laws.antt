@@ -1,11 +1,13 @@
 -- What the numbers of a plan say of its values.
-use Rattle.std.specs.Prelude.{ℕ, ◌+◌, ◌*◌, ◌-◌, ◌^◌, ◌≤◌, List, [], ◌∷◌, All, ℤ, pos, ◌-ℤ◌, ◌*ℤ◌, ◌≤ℤ◌, unsigned_abs}
+use Rattle.std.specs.Prelude.{ℕ, ◌+◌, ◌*◌, ◌-◌, ◌^◌, ◌≤◌, List, [], ◌∷◌, All, ℤ, pos, ◌+ℤ◌, ◌-ℤ◌, ◌*ℤ◌, ◌≤ℤ◌, ◌<ℤ◌, ◌≡◌, unsigned_abs}
 use Rattle.mr_values.specs.declared.plan.Element.{Element}
 use Rattle.mr_values.specs.declared.plan.Element.TheVariants.{Up, Down, Filter, CicDown, CicUp, Round}
 use Rattle.mr_values.specs.Width.{FitsWidth}
+use Rattle.mr_values.specs.Sequence.{samples}
 use Rattle.mr_values.specs.Value.{val, IsWithinLimits}
-use Rattle.mr_values.specs.Timing.{Group, groups, last_stream}
+use Rattle.mr_values.specs.Timing.{Group, groups, last_stream, period_after}
 use Rattle.plan_check.specs.Amounts.{peak_after, error_after_all, no_error}
+use Rattle.plan_check.specs.Costs.{Spread, spread_after}
 
 -- the peak after all groups
 abbrev pub peak_after_all : List Group → ℕ → ℕ
@@ -40,3 +42,29 @@ abbrev pub BoundHolds : List Element → Type 0
 BoundHolds elements =
     let error = error_after_all (groups elements) no_error in
     (xs : List ℤ) (n : ℤ) → unsigned_abs (pos (2 ^ error.shift) *ℤ val elements xs n -ℤ val (plain elements) xs n) ≤ error.bound
+
+-- the classes and the reach after all groups
+abbrev pub spread_after_all : ℕ → List Group → ℕ → Spread → Spread
+spread_after_all ticks [] period s = s
+spread_after_all ticks (g ∷ gs) period s = spread_after_all ticks gs (period_after g period) (spread_after ticks g period s)
+
+abbrev pub reach_of : ℕ → List Element → ℕ
+reach_of ticks elements = (spread_after_all ticks (groups elements) ticks (record { classes = 1; reach = 1 })).reach
+
+abbrev pub HaveNoRound : List Element → Type 0
+HaveNoRound [] = Unit {0}
+HaveNoRound (Up factor ∷ es) = HaveNoRound es
+HaveNoRound (Down factor ∷ es) = HaveNoRound es
+HaveNoRound (Filter taps form ∷ es) = HaveNoRound es
+HaveNoRound (CicDown factor stages delay ∷ es) = HaveNoRound es
+HaveNoRound (CicUp factor stages delay ∷ es) = HaveNoRound es
+HaveNoRound (Round shift mode ∷ es) = ⊥
+
+-- The value at index n depends on no other sample than those that stand, in ticks, at most at n * period, and there
+-- less than `reach` samples back. There are at most `reach` of them.
+abbrev pub ReachHolds : ℕ → List Element → Type 0
+ReachHolds ticks elements =
+    let period = (last_stream 1 ticks elements).period in
+    (xs ys : List ℤ) (n : ℤ)
+    → ((k : ℤ) → (k *ℤ pos ticks) ≤ℤ (n *ℤ pos period) → (n *ℤ pos period) <ℤ ((k +ℤ pos (reach_of ticks elements)) *ℤ pos ticks) → samples xs k ≡ samples ys k)
+    → val elements xs n ≡ val elements ys n

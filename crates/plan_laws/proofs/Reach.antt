@@ -1,0 +1,165 @@
+-- On how many samples a value depends.
+use Rattle.std.proofs.Common.{◌≡◌, ◌∙◌, ℕ, zero, suc, ◌+◌, ◌-◌, ◌*◌, ◌/◌, ◌%◌, ◌^◌, ◌<◌, ◌≤◌, refl, sym, ap, arith, subst, List, [], ◌∷◌, length, ℤ, pos, negsuc, ◌+ℤ◌, ◌-ℤ◌, ◌*ℤ◌, ◌≤ℤ◌, ◌<ℤ◌, Option, None, Some, Bool, true, false, cond, nat_eq, ◌⊎◌, inl, inr}
+use Rattle.std.specs.Prelude.{All, unwrap_or}
+use Rattle.std.proofs.lemmas.Int.{ints}
+use Rattle.std.proofs.lemmas.Nat.{div-add-mod', mod_below}
+use Rattle.std.proofs.lemmas.Bool.{cases_lt}
+use Rattle.std.proofs.Math.Nat.{mul-le-mul_left}
+use Rattle.std.proofs.Math.Path.{fun_ext}
+use borrow.Author.Differences.{up as positive_part, down as negative_part}
+use borrow.Author.Tests.{eqb-true}
+use Rattle.mr_values.specs.declared.plan.Element.{Element}
+use Rattle.mr_values.specs.declared.plan.Element.TheVariants.{Up, Down, Filter, CicDown, CicUp, Round}
+use Rattle.mr_values.specs.declared.plan.Form.{Form}
+use Rattle.mr_values.specs.Width.{floor_quotient, floor_remainder}
+use Rattle.mr_values.specs.Sequence.{Sequence, samples, weighted_sum, up, down, filter, filter_times, ones, cic_down, cic_up}
+use Rattle.mr_values.specs.Value.{size, apply, chain, round, IsWithinLimits}
+use Rattle.mr_values.specs.Timing.{Group, Fir, DownCic, UpCic, Rounding, groups, join_up, join_filter, taps_of, ceil_div, up_factor, down_factor, period_after, after_all, input, Stream, after}
+use Rattle.mr_values.proofs.Division.{floor_split, floor_unique}
+use Rattle.mr_values.proofs.Ring.{+ℤ-*ℤ}
+use Rattle.plan_check.specs.Groups.{IsGroup, size_of, first_failing}
+use Rattle.plan_check.specs.Amounts.{rate_test}
+use Rattle.plan_check.specs.Accepted.{rates_test}
+use Rattle.plan_check.specs.Costs.{Spread, memory_of, spread_after}
+use Rattle.plan_check.proofs.Options.{none_of}
+use Rattle.plan_laws.specs.Laws.{spread_after_all, reach_of, HaveNoRound, ReachHolds}
+
+-- ---- groups as transforms
+
+abbrev pub optional : {A : Type 0} → (A → Sequence → Sequence) → Option A → Sequence → Sequence
+optional f None x = x
+optional f (Some a) x = f a x
+
+abbrev pub filter_by : (List ℤ × Form) → Sequence → Sequence
+filter_by f x = filter f.0 x
+
+abbrev pub apply_group : Group → Sequence → Sequence
+apply_group (Fir u f d) x = optional down d (optional filter_by f (optional up u x))
+apply_group (DownCic factor stages delay) x = cic_down factor stages delay x
+apply_group (UpCic factor stages delay) x = cic_up factor stages delay x
+apply_group (Rounding shift mode) x = round mode shift x
+
+abbrev pub apply_groups : List Group → Sequence → Sequence
+apply_groups [] x = x
+apply_groups (g ∷ gs) x = apply_groups gs (apply_group g x)
+
+groups-join_up : (factor : ℕ) (gs : List Group) (x : Sequence) → apply_groups (join_up factor gs) x ≡ apply_groups gs (up factor x)
+groups-join_up factor [] x = refl
+groups-join_up factor (Fir None f d ∷ gs) x = refl
+groups-join_up factor (Fir (Some u) f d ∷ gs) x = refl
+groups-join_up factor (DownCic other stages delay ∷ gs) x = refl
+groups-join_up factor (UpCic other stages delay ∷ gs) x = refl
+groups-join_up factor (Rounding shift mode ∷ gs) x = refl
+
+groups-join_filter : (taps : List ℤ) (form : Form) (gs : List Group) (x : Sequence) → apply_groups (join_filter taps form gs) x ≡ apply_groups gs (filter taps x)
+groups-join_filter taps form [] x = refl
+groups-join_filter taps form (Fir None None d ∷ gs) x = refl
+groups-join_filter taps form (Fir None (Some f) d ∷ gs) x = refl
+groups-join_filter taps form (Fir (Some u) None d ∷ gs) x = refl
+groups-join_filter taps form (Fir (Some u) (Some f) d ∷ gs) x = refl
+groups-join_filter taps form (DownCic other stages delay ∷ gs) x = refl
+groups-join_filter taps form (UpCic other stages delay ∷ gs) x = refl
+groups-join_filter taps form (Rounding shift mode ∷ gs) x = refl
+
+pub chain-groups : (es : List Element) (x : Sequence) → chain es x ≡ apply_groups (groups es) x
+chain-groups [] x = refl
+chain-groups (Up factor ∷ es) x = chain-groups es (up (size factor) x) ∙ sym (groups-join_up (size factor) (groups es) x)
+chain-groups (Down factor ∷ es) x = chain-groups es (down (size factor) x)
+chain-groups (Filter taps form ∷ es) x = chain-groups es (filter taps x) ∙ sym (groups-join_filter taps form (groups es) x)
+chain-groups (CicDown factor stages delay ∷ es) x = chain-groups es (cic_down (size factor) (size stages) (size delay) x)
+chain-groups (CicUp factor stages delay ∷ es) x = chain-groups es (cic_up (size factor) (size stages) (size delay) x)
+chain-groups (Round shift mode ∷ es) x = chain-groups es (round mode (size shift) x)
+
+-- ---- how far a transform looks back
+
+abbrev LooksBack : ℕ → (Sequence → Sequence) → Type 0
+LooksBack steps f = (x y : Sequence) (n : ℤ) → ((i : ℕ) → i ≤ steps → x (n -ℤ pos i) ≡ y (n -ℤ pos i)) → f x n ≡ f y n
+
+sum-same : (cs : List ℤ) (f g : ℕ → ℤ) → ((i : ℕ) → i < length cs → f i ≡ g i) → weighted_sum cs f ≡ weighted_sum cs g
+sum-same [] f g h = refl
+sum-same (c ∷ cs) f g h =
+    ap (λ (z : ℤ). c *ℤ z +ℤ weighted_sum cs (λ i. f (suc i))) (h zero (omega arith))
+    ∙ ap (λ (z : ℤ). c *ℤ g zero +ℤ z) (sum-same cs (λ i. f (suc i)) (λ i. g (suc i)) (λ i below. h (suc i) (omega arith)))
+
+looks-filter : (taps : List ℤ) → LooksBack (length taps - 1) (filter taps)
+looks-filter taps x y n h = sum-same taps (λ i. x (n -ℤ pos i)) (λ i. y (n -ℤ pos i)) (λ i below. h i (omega arith))
+
+looks-itself : LooksBack 0 (λ (x : Sequence). x)
+looks-itself x y n h = let e : n -ℤ pos 0 ≡ n = omega (arith, ints) in subst (λ (m : ℤ). x m ≡ y m) e (h 0 (omega arith))
+
+looks-both : (s t : ℕ) (f g : Sequence → Sequence) → LooksBack s f → LooksBack t g → LooksBack (s + t) (λ x. f (g x))
+looks-both s t f g p q x y n h = p (g x) (g y) n (λ i small. q x y (n -ℤ pos i) (λ j less. at i j small less))
+  where
+    at : (i j : ℕ) → i ≤ s → j ≤ t → x (n -ℤ pos i -ℤ pos j) ≡ y (n -ℤ pos i -ℤ pos j)
+    at i j small less =
+        let e : n -ℤ pos (i + j) ≡ n -ℤ pos i -ℤ pos j = omega (arith, ints) in
+        subst (λ (m : ℤ). x m ≡ y m) e (h (i + j) (omega arith))
+
+length-ones : (n : ℕ) → length (ones n) ≡ n
+length-ones zero = refl
+length-ones (suc n) = ap suc (length-ones n)
+
+looks-moving : (stages n : ℕ) → LooksBack (stages * (n - 1)) (filter_times stages (ones n))
+looks-moving zero n = subst (λ (k : ℕ). LooksBack k (λ (x : Sequence). x)) (omega arith) looks-itself
+looks-moving (suc stages) n =
+    let first : LooksBack (n - 1) (filter (ones n)) = subst (λ (k : ℕ). LooksBack (k - 1) (filter (ones n))) (length-ones n) (looks-filter (ones n)) in
+    let both = looks-both (n - 1) (stages * (n - 1)) (filter (ones n)) (filter_times stages (ones n)) first (looks-moving stages n) in
+    subst (λ (k : ℕ). LooksBack k (filter_times (suc stages) (ones n))) (omega arith) both
+
+-- ---- one group
+
+-- the samples that the value at n depends on
+abbrev pub Reaches : ℕ → ℕ → ℕ → (Sequence → Sequence) → Type 0
+Reaches ticks period reach f = (x y : Sequence) (n : ℤ)
+    → ((k : ℤ) → (k *ℤ pos ticks) ≤ℤ (n *ℤ pos period) → (n *ℤ pos period) <ℤ ((k +ℤ pos reach) *ℤ pos ticks) → x k ≡ y k) → f x n ≡ f y n
+
+cancel_low : (l a b : ℕ) → 0 < l → l * b ≤ l * a → b ≤ a
+cancel_low l a b some h =
+    elim (cases_lt a b) [
+      | inl less ↦ absurd (omega (arith, mul-le-mul_left l less))
+      | inr most ↦ most
+    ]
+
+-- In ticks, output n stands `w` after value m of the group's input, where i steps lie between them: L * w = i * p.
+record Gap (l p q i : ℕ) (n m : ℤ) : Type 0 where
+  w : ℕ
+  stands : n *ℤ pos q ≡ m *ℤ pos p +ℤ pos w
+  steps : l * w ≡ i * p
+
+gap : (l p q factor i : ℕ) (n m : ℤ) → 0 < l → q * l ≡ p * factor → n *ℤ pos factor ≡ m *ℤ pos l +ℤ pos i → Gap l p q i n m
+gap l p q factor i n m some rate e =
+    let a = positive_part n * q + negative_part m * p in
+    let b = negative_part n * q + positive_part m * p in
+    let first = ap (λ (z : ℕ). positive_part n * z) rate in
+    let second = ap (λ (z : ℕ). negative_part n * z) rate in
+    let places : positive_part n * factor + negative_part m * l ≡ negative_part n * factor + positive_part m * l + i = omega (arith, ints, e) in
+    let scaled = ap (λ (z : ℕ). z * p) places in
+    let parts : l * a ≡ l * b + i * p = omega (arith, first, second, scaled) in
+    let more : b ≤ a = cancel_low l a b some (omega (arith, parts)) in
+    let rest : b + (a - b) ≡ a = omega (arith, more) in
+    record {
+      w = a - b;
+      stands = omega (arith, ints, rest);
+      steps = omega (arith, parts, ap (λ (z : ℕ). l * z) rest);
+    }
+
+step : (ticks p q l factor reach more steps : ℕ) (f back : Sequence → Sequence) → 0 < l → q * l ≡ p * factor → steps * p ≤ more * (l * ticks)
+    → LooksBack steps back → Reaches ticks p reach f → Reaches ticks q (reach + more) (λ x n. back (up l (f x)) (n *ℤ pos factor))
+step ticks p q l factor reach more steps f back some rate room looks reaches x y n h =
+    looks (up l (f x)) (up l (f y)) (n *ℤ pos factor) (λ i small. at i small (nat_eq (floor_remainder (n *ℤ pos factor -ℤ pos i) l) 0) refl)
+  where
+    at : (i : ℕ) → i ≤ steps → (b : Bool) → nat_eq (floor_remainder (n *ℤ pos factor -ℤ pos i) l) 0 ≡ b
+        → cond b (f x (floor_quotient (n *ℤ pos factor -ℤ pos i) l)) (pos 0) ≡ cond b (f y (floor_quotient (n *ℤ pos factor -ℤ pos i) l)) (pos 0)
+    at i small false e = refl
+    at i small true e =
+        let j = n *ℤ pos factor -ℤ pos i in
+        let m = floor_quotient j l in
+        let whole : floor_remainder j l ≡ 0 = eqb-true _ _ e in
+        let split = floor_split j l some in
+        let places : n *ℤ pos factor ≡ m *ℤ pos l +ℤ pos i = omega (arith, ints, split, whole) in
+        let g = gap l p q factor i n m some rate places in
+        let bound : g.w ≤ more * ticks = cancel_low l (more * ticks) g.w some (omega (arith, g.steps, mul-le-mul_left p small, room)) in
+        reaches x y m (λ k low high.
+        let wider = +ℤ-*ℤ (k +ℤ pos reach) (pos more) (pos ticks) in
+        let sum : k +ℤ pos (reach + more) ≡ k +ℤ pos reach +ℤ pos more = omega (arith, ints) in
+        h k (omega (arith, ints, g.stands, low)) (omega (arith, ints, g.stands, high, bound, wider, ap (λ (z : ℤ). z *ℤ pos ticks) sum)))
