@@ -1,10 +1,12 @@
 //! What the numbers of a plan say of its values, for all samples.
 #![tactic(auto)]
 
-ghost use Rattle.std.specs.Prelude.{◌≤◌, ℕ, List, All};
+ghost use Rattle.std.specs.Prelude.{◌≡◌, ◌≤◌, ℕ, List, All, None};
 ghost use Rattle.mr_values.specs.declared.plan.Element.{Element};
 ghost use Rattle.mr_values.specs.Value.{IsWithinLimits};
-ghost use Rattle.plan_laws.specs.Laws.{SpanHolds, PeakHolds, BoundHolds};
+ghost use Rattle.plan_laws.specs.Laws.{SpanHolds, PeakHolds, BoundHolds, ReachHolds, HaveNoRound};
+ghost use Rattle.mr_values.specs.Timing.{groups};
+ghost use Rattle.plan_check.specs.Accepted.{rates_test};
 
 /// Every value of a chain lies in the span of its last stream.
 pub fn law_of_span()
@@ -20,4 +22,9 @@ pub fn law_of_peak()
 /// without its roundings.
 pub fn law_of_bound()
     ensures { (elements : List Element) → All IsWithinLimits elements → BoundHolds elements }
+{}
+
+/// A value of a chain without roundings depends on at most as many samples as its reach.
+pub fn law_of_reach()
+    ensures { (ticks : ℕ) (elements : List Element) → 1 ≤ ticks → All IsWithinLimits elements → HaveNoRound elements → rates_test ticks (groups elements) ≡ None → ReachHolds ticks elements }
 {}
