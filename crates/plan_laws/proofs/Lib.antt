@@ -4,3 +4,4 @@ pub mod Spans
 pub mod Peaks
 pub mod Errors
 pub mod Reach
+pub mod Passes
