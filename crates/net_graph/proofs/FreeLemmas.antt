@@ -5,49 +5,32 @@ use Rattle.net_graph.specs.declared.cell.Cell.{Cell}
 use Rattle.net_graph.specs.declared.name.Name.{Name}
 use Rattle.net_graph.specs.declared.name.NameKind.{NameKind}
 use Rattle.net_graph.specs.WellFormed.{IsFree}
-use Rattle.std.specs.Prelude.{nat_le, if◌then◌else◌}
-
--- 1 for a name whose number is not below k
-pub from_number : ℕ → Option Name → ℕ
-from_number k None = 0
-from_number k (Some name) = if nat_le k name.number then 1 else 0
-
--- how many cells have a name whose number is not below k
-pub numbered_from : ℕ → List Cell → ℕ
-numbered_from k [] = 0
-numbered_from k (cell ∷ cells) = from_number k cell.name + numbered_from k cells
+use Rattle.net_graph.specs.Names.{from_number, numbered_from}
 
 from_number-most : (k : ℕ) (name : Option Name) → from_number k name ≤ 1
-unfolding from_number
 from_number-most k None = omega arith
 from_number-most k (Some name) = grind arith
 
 pub numbered_from-most : (k : ℕ) (cells : List Cell) → numbered_from k cells ≤ length cells
-unfolding numbered_from
 numbered_from-most k [] = omega arith
 numbered_from-most k (cell ∷ cells) = let one = from_number-most k cell.name in let more = numbered_from-most k cells in omega arith
 
 from_number-less : (k : ℕ) (name : Option Name) → from_number (suc k) name ≤ from_number k name
-unfolding from_number
 from_number-less k None = omega arith
 from_number-less k (Some name) = grind arith
 
 numbered_from-less : (k : ℕ) (cells : List Cell) → numbered_from (suc k) cells ≤ numbered_from k cells
-unfolding numbered_from
 numbered_from-less k [] = omega arith
 numbered_from-less k (cell ∷ cells) = let one = from_number-less k cell.name in let more = numbered_from-less k cells in omega arith
 
 from_number-own : (name : Name) (n : ℕ) → n ≤ name.number → from_number n (Some name) ≡ 1
-unfolding from_number
 from_number-own name n h = grind arith
 
 from_number-past : (name : Name) (n : ℕ) → name.number < n → from_number n (Some name) ≡ 0
-unfolding from_number
 from_number-past name n h = grind arith
 
 -- a cell whose number is k drops out behind k
 numbered_from-drop : (k : ℕ) (cells : List Cell) (place : ℕ) (cell : Cell) (name : Name) → slice_get cells place ≡ Some cell → cell.name ≡ Some name → name.number ≡ k → numbered_from (suc k) cells + 1 ≤ numbered_from k cells
-unfolding numbered_from
 numbered_from-drop k [] place cell name there is e = absurd (cc)
 numbered_from-drop k (c ∷ cells) zero cell name there is e =
     let same : c ≡ cell = cc in

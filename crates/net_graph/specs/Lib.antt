@@ -6,3 +6,4 @@ pub mod WellFormed
 pub mod Grow
 pub mod Control
 pub mod Count
+pub mod Names

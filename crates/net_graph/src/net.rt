@@ -4,6 +4,7 @@ ghost use Rattle.std.specs.Prelude.{◌≡◌, ℕ, ◌+◌, ◌-◌, ◌<◌, �
 ghost use Rattle.net_graph.specs.Cells.{NetView, cell_at};
 ghost use Rattle.net_graph.specs.Name.{IsRegisterName, IsWireName};
 ghost use Rattle.net_graph.specs.WellFormed.{IsWidth, IsNode, IsFree, IsLeastFree, IsFirstUnbound, IsNetlist};
+ghost use Rattle.net_graph.specs.Names.{numbered_from};
 ghost use Rattle.net_graph.specs.Grow.{Adds, AddsRegister, IsUnbound, IsBoundTo, IsNamedAs};
 
 use crate::cell::{Cell, Item, Node};
@@ -29,6 +30,33 @@ impl Model for Net {
     ghost view = { λ n. record { cells = n.cells.items; group = n.group } };
 
     ghost invariant = { λ n. IsWellFormed n.cells.items };
+}
+
+// Whether the cell has this name.
+fn has_name(cell: &Cell, name: Name) -> bool
+    ensures yes { result ≡ true → cell.now.name ≡ Some name }
+    ensures no { result ≡ false → cell.now.name ≡ Some name → ⊥ }
+{
+    cell.name == Some(name)
+}
+
+// How many numbers of that group and kind stand one after another in the list, from 0.
+fn run_length(cells: &[Cell], group: u32, kind: NameKind) -> usize
+    ensures used { (lower : ℕ) → lower < result → IsFree cells.now (record { group = group; kind = kind; number = lower }) → ⊥ }
+    ensures room { result + numbered_from result cells.now ≤ length cells.now }
+{
+    let mut number = 0;
+    for cell in cells {
+        let name = Name {
+            group,
+            kind,
+            number,
+        };
+        if has_name(cell, name) {
+            number += 1;
+        }
+    }
+    number
 }
 
 impl Net {
@@ -194,18 +222,20 @@ impl Net {
         ensures used { result ≡ false → IsFree self.now.cells name → ⊥ }
     {
         for cell in &self.cells {
-            if cell.name == Some(name) {
+            if has_name(cell, name) {
                 return false;
             }
         }
         true
     }
 
-    /// The least number that no name of that group and kind has.
+    /// The least number that no name of that group and kind has. It takes two passes over the list where these names stand in the
+    /// order of their numbers.
     pub fn free_number(&self, group: u32, kind: NameKind) -> usize
         ensures { IsLeastFree self.now.cells group kind result }
     {
-        for number in 0..self.cells.len() {
+        let first = run_length(&self.cells, group, kind);
+        for number in first..self.cells.len() {
             if self.is_free(Name {
                 group,
                 kind,

@@ -17,3 +17,6 @@ pub use gates::{counter, gate_of};
 pub use phase::phases;
 pub use selections::select;
 pub use windows::{taking_register, window};
+
+#[cfg(test)]
+mod tests;

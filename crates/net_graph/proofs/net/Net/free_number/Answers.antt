@@ -1,12 +1,19 @@
-use Rattle.std.proofs.Common.{◌≡◌, ℕ, ◌+◌, ◌≤◌, length, arith, refl, suc, inl, inr, subst, ap}
+use Rattle.net_graph.specs.declared.cell.Cell.{Cell}
+use Rattle.net_graph.specs.Names.{numbered_from}
+use Rattle.std.proofs.Common.{◌≡◌, ℕ, ◌+◌, ◌≤◌, length, arith, refl, suc, inl, inr, subst, ap, List, ◌<◌, ◌∙◌}
 use Rattle.std.proofs.lemmas.Bool.{cases_lt}
 use Rattle.net_graph.specs.Cells.{NetView}
 use Rattle.net_graph.specs.WellFormed.{IsFree}
-use Rattle.net_graph.proofs.FreeLemmas.{numbered_from, numbered_from-most, IsUsed-room, IsFree-past}
+use Rattle.net_graph.proofs.FreeLemmas.{IsUsed-room, IsFree-past}
 use Rattle.net_graph.proofs.net.Net.free_number.Goals as goal
 
 pub loop-number-init : goal.loop-number-init
-loop-number-init c = (λ lower less. absurd (omega arith), omega (arith, numbered_from-most 0 c.args.self.now.cells))
+loop-number-init c =
+    let value = c.deref.ensures.value ∙ ap (λ (n : NetView). n.cells) c.self.view_is in
+    let run = c.run_length-first.ensures in (
+      subst (λ (cells : List Cell). (lower : ℕ) → lower < c.run_length-first.result → IsFree cells (record { group = c.args.group; kind = c.args.kind; number = lower }) → ⊥) value run.used,
+      subst (λ (cells : List Cell). c.run_length-first.result + numbered_from c.run_length-first.result cells ≤ length cells) value run.room,
+    )
 
 -- a number that is used takes a node
 pub loop-number-preserved : goal.loop-number-preserved

@@ -1,6 +1,6 @@
 use Rattle.std.proofs.Common.{ℕ, ◌+◌, ◌<◌, ◌≤◌, length}
 use Rattle.net_graph.specs.WellFormed.{IsFree}
-use Rattle.net_graph.proofs.FreeLemmas.{numbered_from}
+use Rattle.net_graph.specs.Names.{numbered_from}
 use Rattle.net_graph.proofs.net.Net.free_number.Given as goal
 
 -- the lower numbers are used, and the others leave room
