@@ -70,7 +70,8 @@ first_write plan text report text_bytes report_bytes _ old read new outputs file
 -- REPORT is written after TEXT
 pub last_write : (plan text report : List ℕ) (text_bytes report_bytes : List ℕ) (result : Result (Unit {0}) Fault) (old middle new : HostState) → AreOutputs plan old.files text_bytes report_bytes → IsReadToEnd plan old new
     → middle.files ≡ insert old.files text text_bytes → WriteAnswer report report_bytes result middle.files new.files → CompileEnds plan text report result old new
-last_write plan text report text_bytes report_bytes (Ok done) old middle new outputs ended written answer = (text_bytes, report_bytes, outputs, ended, answer ∙ ap (λ files. insert files report report_bytes) written)
+last_write plan text report text_bytes report_bytes (Ok done) old middle new outputs ended written answer =
+    record { text_bytes = text_bytes; report_bytes = report_bytes; outputs = outputs; ended = ended; written = answer ∙ ap (λ files. insert files report report_bytes) written }
 last_write plan text report text_bytes report_bytes (Err (HostFault OpenInput)) old middle new outputs ended written answer = absurd answer
 last_write plan text report text_bytes report_bytes (Err (HostFault Next)) old middle new outputs ended written answer = absurd answer
 last_write plan text report text_bytes report_bytes (Err (HostFault OpenOutput)) old middle new outputs ended written answer = (text_bytes, report_bytes, outputs, inr (subst (λ before. IsEmptied report before new.files) written answer))

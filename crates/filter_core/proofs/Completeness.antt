@@ -10,7 +10,9 @@ use Rattle.filter_core.specs.declared.fault.Fault.TheVariants.{HostFault, Memory
 use Rattle.filter_core.specs.declared.fault.FileKind.TheVariants.{Plan}
 use Rattle.filter_core.specs.FirstPlan.{FirstPlan, IsFirstPlan}
 use Rattle.filter_core.specs.Ends.{IsStruckFor, IsMissing, call_of}
-use Rattle.filter_core.specs.Compile.{IsAccepted, CompileEnds}
+use Rattle.filter_core.specs.CommandWords.{CommandWords, compile_words}
+use Rattle.filter_core.specs.Tool.{CommandEnds}
+use Rattle.filter_core.specs.Compile.{IsAccepted, IsCompiled, CompileEnds}
 
 -- a file that is there isn't missing
 there_isnt_missing : (name bytes : List ℕ) (files : Files) → get files name ≡ Some bytes → IsMissing (name ∷ []) files → ⊥
@@ -34,3 +36,7 @@ compile-complete plan text report (Err NotBuilt) old new struck ends meaning acc
     let same : accepted.bytes ≡ ends.0.bytes = same_Some _ _ (sym accepted.there ∙ ends.0.there) in
     absurd (ends.0.other meaning (subst (λ bytes. IsFirstPlan bytes meaning) same accepted.first))
 compile-complete plan text report (Err _) old new struck ends meaning accepted unstruck = absurd ends
+
+-- what `compile` is at its end, where its words are these
+pub compiled : (command : CommandWords) (plan text report : List ℕ) (result : Result (Unit {0}) Fault) (old new : HostState) → command ≡ compile_words plan text report → result ≡ Ok tt → CommandEnds command result old new → IsCompiled plan text report old new
+compiled command plan text report result old new is done ends = subst (λ (r : Result (Unit {0}) Fault). CompileEnds plan text report r old new) done (subst (λ (c : CommandWords). CommandEnds c result old new) is ends)

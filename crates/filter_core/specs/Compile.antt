@@ -57,6 +57,16 @@ pub record AreOutputs (plan : List ℕ) (files : Files) (text report : List ℕ)
 abbrev pub HoldsBoth : List ℕ → List ℕ → List ℕ → List ℕ → Files → Files → Type 0
 HoldsBoth text report text_bytes report_bytes old new = new ≡ insert (insert old text text_bytes) report report_bytes
 
+-- The command was done: PLAN was read to its end and is accepted, TEXT reads as one module that shows, after any reset, for all samples
+-- and clock enables, exactly the plan's chain at the reported latency and period and at no other tick, REPORT has the lines of the
+-- report, and no other file has changed.
+pub record IsCompiled (plan text report : List ℕ) (old new : HostState) : Type 0 where
+  pub text_bytes : List ℕ
+  pub report_bytes : List ℕ
+  pub outputs : AreOutputs plan old.files text_bytes report_bytes
+  pub ended : IsReadToEnd plan old new
+  pub written : HoldsBoth text report text_bytes report_bytes old.files new.files
+
 -- what the files hold where TEXT was being written, or REPORT was and TEXT is whole
 abbrev pub WhileWriting : (List ℕ → List ℕ → Files → Files → Type 0) → List ℕ → List ℕ → List ℕ → List ℕ → Files → Files → Type 0
 WhileWriting Holds text report text_bytes report_bytes old new =
@@ -80,8 +90,7 @@ IsCutOff plan text report old new = (new ≡ old) ⊎ IsCutShort HoldsPart plan 
 
 -- each answer of `compile`, and the host after it
 abbrev pub CompileEnds : List ℕ → List ℕ → List ℕ → Result (Unit {0}) Fault → HostState → HostState → Type 0
-CompileEnds plan text report (Ok done) old new =
-    (text_bytes : List ℕ) × (report_bytes : List ℕ) × AreOutputs plan old.files text_bytes report_bytes × IsReadToEnd plan old new × HoldsBoth text report text_bytes report_bytes old.files new.files
+CompileEnds plan text report (Ok done) old new = IsCompiled plan text report old new
 CompileEnds plan text report (Err (FileTooLong Plan)) old new = IsTooLong plan old.files × (new.files ≡ old.files)
 CompileEnds plan text report (Err NotBuilt) old new = IsNotBuilt plan old.files × (new.files ≡ old.files)
 CompileEnds plan text report (Err (HostFault call)) old new = IsStoppedAt call plan text report old.files new.files

@@ -11,10 +11,7 @@ use std::alloc::{AllocError, Global};
 pub fn report_text(alloc: Global, plan: OneTap) -> Result<Vec<u8>, AllocError>
     ensures { IfOk result (λ text. text.items ≡ report_text (plan_view plan)) }
 {
-    let mut text = Vec::from_slice(
-        alloc,
-        b"latency 2\nperiod 1\nbound 0\nshift 0\noutput ",
-    )?;
+    let mut text = Vec::from_slice(alloc, b"latency 2\nperiod 1\nbound 0\nshift 0\noutput ")?;
     let mut buffer = Buffer::new();
     text.extend_from_slice(buffer.format(plan.width + plan.shift).as_bytes())?;
     text.extend_from_slice(b"\n")?;

@@ -1,7 +1,8 @@
 // The top call.
-ghost use Rattle.std.specs.Prelude.{◌≡◌, ◌↔◌, ◌≢◌, Err, IsOkUnless, map, IsTrue, string_bytes, Some, None};
+ghost use Rattle.std.specs.Prelude.{◌≡◌, ℕ, List, ◌↔◌, ◌≢◌, Err, IsOkUnless, map, IsTrue, string_bytes, Some, None};
 ghost use Rattle.mr_values.specs.Faults.{IsRisen};
-ghost use Rattle.filter_core.specs.CommandWords.{CommandWords, words_of, command_of};
+ghost use Rattle.filter_core.specs.CommandWords.{CommandWords, compile_words, words_of, command_of};
+ghost use Rattle.filter_core.specs.Compile.{IsCompiled};
 ghost use Rattle.filter_core.specs.Ends.{EndsWith, call_of};
 ghost use Rattle.filter_core.specs.Statuses.{status_of};
 ghost use Rattle.filter_core.specs.Tool.{CommandEnds, ToolEnds, IsUnbuilt, IsUnbuiltBy, IsReady, files_read, files_read_by, result_of};
@@ -34,6 +35,10 @@ pub fn filter_tool<H: Host>(alloc: Global, words: &[String], host: &mut H) -> Ou
     // A command that isn't built is refused at once.
     ensures unbuilt { IsUnbuiltBy (command_of (map string_bytes words.now)) (result_of result.fault) (H.state host.old) (H.state host.new) }
 
+    // The headline: what a compiled plan's text shows is exactly the plan's chain.
+    ensures headline { (plan text report : List ℕ) → command_of (map string_bytes words.now) ≡ Some (compile_words plan text report) → IsTrue (H.state host.old).tells → result.fault ≡ None
+        → IsCompiled plan text report (H.state host.old) (H.state host.new) }
+
     // What each answer says of the files, before and after.
     ensures told { IsTrue (H.state host.old).tells → ToolEnds (command_of (map string_bytes words.now)) (result_of result.fault) (H.state host.old) (H.state host.new) }
 
@@ -55,6 +60,8 @@ pub fn filter_tool<H: Host>(alloc: Global, words: &[String], host: &mut H) -> Ou
 }
 
 fn run<H: Host>(alloc: Global, command: Command<'_>, host: &mut H) -> Result<(), Fault>
+    ensures headline { (plan text report : List ℕ) → words_of command.entry ≡ compile_words plan text report → IsTrue (H.state host.old).tells → result ≡ Ok tt
+        → IsCompiled plan text report (H.state host.old) (H.state host.new) }
     ensures cause { EndsWith (files_read (words_of command.entry)) (call_of result) (H.state host.old) (H.state host.new) }
     ensures told { IsTrue (H.state host.old).tells → CommandEnds (words_of command.entry) result (H.state host.old) (H.state host.new) }
     ensures command { result ≢ Err Fault.Usage }

@@ -47,8 +47,9 @@ pub record ShowsChain (elements : List Element) (width latency period : ℕ) (d 
   pub shows : (content : Values) (before after : List Cycle) (reset : Cycle) (settled : List Values) → IsRunFrom d width content before after reset settled
       → map pair_of (events_after d before after settled) ≡ outputs_within latency period (λ n. val elements (samples_in width after) (pos n)) (ticks_in after)
 
--- the bytes read as a module that shows the chain
+-- the bytes read as one module, and it shows the chain
 pub record IsTextOf (elements : List Element) (width latency period : ℕ) (bytes : List ℕ) : Type 0 where
   pub design : Design
   pub reads : Reads bytes design
+  pub only : (other : Design) → Reads bytes other → other ≡ design
   pub shows : ShowsChain elements width latency period design

@@ -5,6 +5,7 @@ use Rattle.verilog_text.specs.Grammar.{limits}
 use Rattle.verilog_text.specs.Shortest.{IsWritable}
 use Rattle.verilog_text.specs.Order.{IsInOrder, IsSameButPlaces}
 use Rattle.verilog_text.specs.Reading.{Reads}
+use Rattle.verilog_text.proofs.OneReading.{one_design}
 use Rattle.net_module.specs.Written.{written_module}
 use Rattle.net_module.proofs.Outputs.{shows_as}
 use Rattle.filter_text.proofs.OneTapWritable.{one_tap_writable}
@@ -34,6 +35,7 @@ returns c =
     (λ text read taps one form. record {
       design = read.0;
       reads = read.1;
+      only = λ other its. one_design text.items other read.0 its read.1;
       shows = one_tap_shows c.args.plan.wide net (shows_as cells net.netlist can) taps form one read.0 (subst (λ (d : Design). IsSameButPlaces read.0 d) c.in_ok-module.ensures read.2);
     })
     c.text_of.result same
