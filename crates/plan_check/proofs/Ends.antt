@@ -1,5 +1,5 @@
 -- The ends of a filter's values, by the sums of its taps.
-use Rattle.std.proofs.Common.{◌≡◌, ℕ, suc, ◌+◌, refl, arith, List, [], ◌∷◌, ℤ, pos, negsuc, ◌+ℤ◌, ◌-ℤ◌, ◌*ℤ◌}
+use Rattle.std.proofs.Common.{◌≡◌, ◌+◌, arith, List, [], ◌∷◌, ℤ, pos, negsuc, ◌-ℤ◌, ◌*ℤ◌}
 use Rattle.std.proofs.lemmas.Int.{ints}
 use Rattle.mr_values.specs.Timing.{low_end, high_end}
 use Rattle.mr_values.proofs.Ring.{+ℤ-*ℤ}

@@ -1,5 +1,5 @@
 -- The first group of a list of elements.
-use Rattle.std.proofs.Common.{◌≡◌, ◌∙◌, ℕ, suc, ◌+◌, ◌≤◌, refl, sym, ap, arith, List, [], ◌∷◌, length, get_or, zero, ◌<◌, ◌^◌, Option, None, Some, ℤ, pos, negsuc, neg_ℤ, ◌≤ℤ◌}
+use Rattle.std.proofs.Common.{◌≡◌, ℕ, suc, ◌+◌, ◌≤◌, refl, ap, arith, List, [], ◌∷◌, length, get_or, zero, ◌<◌, ◌^◌, Option, None, Some, ℤ, pos, negsuc, neg_ℤ, ◌≤ℤ◌}
 use Rattle.std.specs.Prelude.{All, unwrap_or}
 use Rattle.std.proofs.lemmas.Int.{ints}
 use Rattle.mr_values.specs.declared.plan.Element.{Element}
@@ -8,7 +8,7 @@ use Rattle.mr_values.specs.declared.plan.Form.{Form}
 use Rattle.mr_values.specs.declared.plan.Mode.{Mode}
 use Rattle.mr_values.specs.Value.{size, IsWithinLimits, IsFromOne, AreTaps, IsForm}
 use Rattle.mr_values.specs.Timing.{Group, Fir, DownCic, UpCic, Rounding, groups, join_up, join_filter, taps_of, form_of}
-use Rattle.plan_check.specs.Groups.{present, size_of, leading_up, past_up, leading_filter, past_filter, leading_down, past_down, BeginsFir, IsFir, IsCic, IsGroup, IsSplit, IsFactor}
+use Rattle.plan_check.specs.Groups.{present, size_of, leading_up, past_up, leading_filter, past_filter, leading_down, past_down, BeginsFir, IsCic, IsSplit, IsFactor}
 
 -- ---- what joins
 

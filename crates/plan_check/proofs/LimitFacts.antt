@@ -1,5 +1,5 @@
 -- What it says of a plan that its numbers pass the tests of their limits.
-use Rattle.std.proofs.Common.{◌≡◌, ℕ, zero, suc, ◌+◌, ◌^◌, ◌<◌, ◌≤◌, arith, List, [], ◌∷◌, length, get_or, Option, None, Some, ℤ, pos, neg_ℤ, ◌≤ℤ◌}
+use Rattle.std.proofs.Common.{◌≡◌, ℕ, zero, suc, ◌^◌, arith, List, [], ◌∷◌, length, None, ℤ, pos, neg_ℤ, ◌≤ℤ◌}
 use Rattle.std.specs.Prelude.{All}
 use Rattle.std.proofs.lemmas.Int.{ints}
 use Rattle.mr_values.specs.declared.plan.Element.{Element}
@@ -7,11 +7,10 @@ use Rattle.mr_values.specs.declared.plan.Element.TheVariants.{Up, Down, Filter, 
 use Rattle.mr_values.specs.declared.plan.Form.{Form}
 use Rattle.mr_values.specs.declared.plan.Form.TheVariants.{Parallel, Symmetric, HalfBand, Folded, Distributed}
 use Rattle.mr_values.specs.declared.plan.Plan.{Plan}
-use Rattle.mr_values.specs.Value.{IsFromOne, AreTaps, IsForm, IsWithinLimits}
+use Rattle.mr_values.specs.Value.{IsFromOne, IsForm, IsWithinLimits}
 use Rattle.plan_check.specs.declared.fault.LimitWhich.{LimitWhich}
 use Rattle.plan_check.specs.declared.fault.LimitWhich.TheVariants.{Width, Ticks, Elements, Factor, Stages, Delay, Taps, Tap, Slots, Group, Shift}
-use Rattle.plan_check.specs.declared.fault.PlanFault.{PlanFault}
-use Rattle.plan_check.specs.Limits.{limit_test, taps_test, form_test, cic_test, element_test, elements_test, own_test, limits_test, HasLimits}
+use Rattle.plan_check.specs.Limits.{limit_test, taps_test, form_test, cic_test, element_test, elements_test, limits_test, HasLimits}
 use Rattle.plan_check.proofs.Options.{none_of}
 
 limit_passes : (element : ℕ) (which : LimitWhich) (value least greatest : ℤ) → limit_test element which value least greatest ≡ None → (least ≤ℤ value) × (value ≤ℤ greatest)

@@ -1,9 +1,9 @@
 -- A step of the tests of taps that are read backwards, and of taps that are 0.
-use Rattle.std.proofs.Common.{◌≡◌, ◌∙◌, ℕ, suc, ◌+◌, ◌-◌, ◌<◌, ◌≤◌, ◌%◌, refl, sym, ap, arith, List, [], ◌∷◌, length, drop, get_or, map, reverse, drop-cons, add-one, ℤ, pos, neg_ℤ, Bool, true, false}
-use Rattle.std.specs.Prelude.{◌&&◌, ◌||◌, ◌==◌, ◌≢◌, int_le}
+use Rattle.std.proofs.Common.{◌≡◌, ◌∙◌, ℕ, ◌+◌, ◌-◌, ◌<◌, ◌≤◌, ◌%◌, refl, sym, ap, arith, List, [], length, drop, get_or, map, reverse, drop-cons, add-one, ℤ, pos, neg_ℤ, Bool, true, false}
+use Rattle.std.specs.Prelude.{◌&&◌, ◌||◌, ◌==◌, ◌≢◌}
 use Rattle.std.proofs.lemmas.Int.{ints}
 use Rattle.std.proofs.lemmas.List.{get_or-reverse, length-reverse, get_or-map, length-map, drop_all}
-use Rattle.plan_check.specs.Forms.{same_number, same_numbers, is_symmetric, is_antisymmetric, is_zero_between}
+use Rattle.plan_check.specs.Forms.{same_number, same_numbers, is_zero_between}
 
 pub same_number_yes : (a b : ℤ) → a ≡ b → same_number a b ≡ true
 same_number_yes a b e = rw e (grind (arith, ints))

@@ -1,20 +1,18 @@
 -- No value of a plan whose peak and periods pass their tests is too great for 128 bits.
-use Rattle.std.proofs.Common.{◌≡◌, ◌∙◌, ℕ, zero, suc, ◌+◌, ◌-◌, ◌*◌, ◌/◌, ◌%◌, ◌^◌, ◌<◌, ◌≤◌, max, refl, sym, ap, arith, subst, List, [], ◌∷◌, ℤ, pos, negsuc, neg_ℤ, ◌+ℤ◌, ◌-ℤ◌, ◌*ℤ◌, ◌≤ℤ◌, Option, None, Some, Bool, true, false, cond}
-use Rattle.std.specs.Prelude.{unsigned_abs, nat_le, ◌==◌}
-use Rattle.std.specs.Option.{option_or}
+use Rattle.std.proofs.Common.{◌≡◌, ℕ, zero, suc, ◌+◌, ◌-◌, ◌*◌, ◌/◌, ◌^◌, ◌<◌, ◌≤◌, max, refl, arith, subst, List, [], ◌∷◌, ℤ, pos, negsuc, neg_ℤ, ◌+ℤ◌, ◌*ℤ◌, None}
+use Rattle.std.specs.Prelude.{unsigned_abs}
 use Rattle.std.proofs.lemmas.Int.{ints, unsigned_abs-mul}
 use Rattle.std.proofs.lemmas.Nat.{pow_pos}
-use Rattle.std.proofs.Math.Nat.{mul-le-mul_left, mul-le-mul_right, add-div_right, div-mul-le_self, pow-le-pow_right, div-eq_of_lt, pow-suc}
+use Rattle.std.proofs.Math.Nat.{mul-le-mul_left, add-div_right, div-mul-le_self, pow-le-pow_right, div-eq_of_lt}
 use Rattle.std.proofs.lemmas.Nat.{le-div}
 use Rattle.mr_values.specs.declared.plan.Mode.{Mode}
 use Rattle.mr_values.specs.declared.plan.Mode.TheVariants.{HalfUp, Floor}
 use Rattle.mr_values.specs.Value.{round_value}
 use Rattle.mr_values.specs.Width.{floor_quotient}
-use Rattle.mr_values.specs.Timing.{Group, Fir, DownCic, UpCic, Rounding, taps_of, ceil_div, least_term, low_end, high_end, low_after, high_after, period_after, up_factor, down_factor, input}
+use Rattle.mr_values.specs.Timing.{Group, Fir, DownCic, UpCic, Rounding, taps_of, least_term, low_end, high_end, low_after, high_after, period_after, input}
 use Rattle.mr_values.proofs.Division.{pow_halves}
-use Rattle.mr_values.proofs.Ring.{+ℤ-*ℤ}
 use Rattle.plan_check.specs.Groups.{size_of, first_failing, IsGroup}
-use Rattle.plan_check.specs.Amounts.{magnitude, rises, falls, gain, round_peak, peak_after, peak_test, rate_test}
+use Rattle.plan_check.specs.Amounts.{magnitude, gain, round_peak, peak_after, peak_test, rate_test}
 use Rattle.plan_check.specs.Accepted.{peaks_test, rates_test}
 use Rattle.plan_check.proofs.Options.{none_of}
 

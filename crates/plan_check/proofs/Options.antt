@@ -1,5 +1,5 @@
 -- The first of two faults.
-use Rattle.std.proofs.Common.{◌≡◌, ◌∙◌, refl, sym, ap, Option, None, Some}
+use Rattle.std.proofs.Common.{◌≡◌, refl, sym, ap, Option, None, Some}
 use Rattle.std.specs.Option.{option_or}
 
 pub after_none : {F : Type 0} (a b : Option F) → None ≡ a → option_or a b ≡ b

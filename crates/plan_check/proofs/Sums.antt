@@ -1,6 +1,6 @@
 -- Sums of taps, and powers.
-use Rattle.std.proofs.Common.{◌≡◌, ◌∙◌, ℕ, zero, suc, ◌+◌, ◌-◌, ◌*◌, ◌%◌, ◌^◌, ◌≤◌, refl, arith, List, [], ◌∷◌, ℤ, pos, negsuc, lit≤, ◌<◌, lit<, ap}
-use native.Mathlib.Nat.{pow-le-pow_left, mul-le-mul_right, pow-le-pow_right, mul-le-mul_left}
+use Rattle.std.proofs.Common.{◌≡◌, ℕ, zero, suc, ◌+◌, ◌-◌, ◌*◌, ◌%◌, ◌^◌, ◌≤◌, refl, arith, List, [], ◌∷◌, ℤ, pos, negsuc, ◌<◌, lit<, ap}
+use native.Mathlib.Nat.{pow-le-pow_left, pow-le-pow_right, mul-le-mul_left}
 use Rattle.std.proofs.lemmas.Nat.{one_shl, pow-add, pow_pos}
 use Rattle.mr_values.specs.declared.plan.Mode.{Mode}
 use Rattle.mr_values.specs.declared.plan.Mode.TheVariants.{HalfUp, Floor}

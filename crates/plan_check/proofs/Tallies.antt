@@ -1,5 +1,5 @@
 -- A step of the walk that adds up the costs of the groups and writes down their facts.
-use Rattle.std.proofs.Common.{◌≡◌, ◌∙◌, ℕ, ◌+◌, refl, sym, ap, List, [], ◌∷◌, ◌++◌, append_assoc, append-nil}
+use Rattle.std.proofs.Common.{◌≡◌, ◌∙◌, ℕ, ◌+◌, sym, ap, List, [], ◌∷◌, ◌++◌, append_assoc, append-nil}
 use Rattle.mr_values.specs.declared.plan.Element.{Element}
 use Rattle.mr_values.specs.Timing.{Group, groups, Stream, after, after_all}
 use Rattle.plan_check.specs.declared.facts.GroupFacts.{GroupFacts}

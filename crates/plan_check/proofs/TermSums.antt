@@ -1,5 +1,5 @@
 -- The terms of taps, by their signs, and of taps that are one phase.
-use Rattle.std.proofs.Common.{◌≡◌, ◌∙◌, ℕ, zero, suc, ◌+◌, refl, ap, arith, ◌≤◌, List, [], ◌∷◌, sum_by, ℤ, pos, max}
+use Rattle.std.proofs.Common.{◌≡◌, ℕ, zero, suc, ◌+◌, refl, ap, arith, ◌≤◌, List, [], ◌∷◌, sum_by, ℤ, pos, max}
 use Rattle.std.proofs.lemmas.List.Sums.{sum_by-cons}
 use Rattle.mr_values.specs.Sequence.{phase}
 use Rattle.mr_values.specs.Digit.{positive_count, negative_count, digit_count}

@@ -10,7 +10,7 @@ use Rattle.plan_check.specs.declared.facts.Facts.{Facts}
 use Rattle.plan_check.specs.declared.facts.GroupFacts.{GroupFacts}
 use Rattle.plan_check.specs.Limits.{limits_test}
 use Rattle.plan_check.specs.Groups.{first_failing, size_of, last_of}
-use Rattle.plan_check.specs.Amounts.{rate_test, peak_test, peak_after, bound_test, RoundingError, error_after, error_after_all, no_error}
+use Rattle.plan_check.specs.Amounts.{rate_test, peak_test, peak_after, bound_test, error_after, error_after_all, no_error}
 use Rattle.plan_check.specs.Forms.{fit_test, flow_of, flow_after}
 use Rattle.plan_check.specs.Costs.{Tally, tally_after, terms_of, cost_test}
 

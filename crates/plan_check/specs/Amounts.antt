@@ -6,7 +6,7 @@ use Rattle.mr_values.specs.declared.plan.Mode.TheVariants.{HalfUp, Floor}
 use Rattle.mr_values.specs.Timing.{Group, Fir, DownCic, UpCic, Rounding, taps_of, ceil_div, up_factor, down_factor, period_after}
 use Rattle.plan_check.specs.declared.fault.PlanFault.{PlanFault}
 use Rattle.plan_check.specs.declared.fault.PlanFault.TheVariants.{RateNotWhole, PeriodOver, TooWide, BoundTooWide}
-use Rattle.plan_check.specs.Groups.{size_of, last_of, middle_of}
+use Rattle.plan_check.specs.Groups.{last_of, middle_of}
 
 -- ---- rates
 

@@ -1,12 +1,12 @@
 -- Sequences between two bounds, through an element.
-use Rattle.std.proofs.Common.{◌≡◌, ◌∙◌, ℕ, zero, suc, ◌+◌, ◌-◌, ◌*◌, ◌/◌, ◌^◌, ◌<◌, ◌≤◌, refl, sym, ap, arith, subst, List, [], ◌∷◌, ℤ, pos, negsuc, ◌+ℤ◌, ◌-ℤ◌, ◌*ℤ◌, ◌≤ℤ◌, Bool, true, false, cond, nat_eq}
+use Rattle.std.proofs.Common.{◌≡◌, ◌∙◌, ℕ, zero, suc, ◌-◌, ◌^◌, ◌<◌, refl, sym, ap, arith, subst, List, [], ◌∷◌, ℤ, pos, negsuc, ◌+ℤ◌, ◌-ℤ◌, ◌*ℤ◌, ◌≤ℤ◌, Bool, true, false, cond, nat_eq}
 use Rattle.std.proofs.lemmas.Int.{ints}
 use Rattle.std.proofs.lemmas.Nat.{pow_pos}
-use Rattle.std.proofs.Math.Nat.{pow-suc, pow-zero, mul-le-mul_left}
+use Rattle.std.proofs.Math.Nat.{pow-suc, pow-zero}
 use Rattle.mr_values.specs.declared.plan.Mode.{Mode}
 use Rattle.mr_values.specs.declared.plan.Mode.TheVariants.{HalfUp, Floor}
 use Rattle.mr_values.specs.Width.{floor_quotient, floor_remainder}
-use Rattle.mr_values.specs.Sequence.{Sequence, weighted_sum, up, down, filter, filter_times, ones, cic_down, cic_up}
+use Rattle.mr_values.specs.Sequence.{Sequence, weighted_sum, up, down, filter, filter_times, ones}
 use Rattle.mr_values.specs.Value.{round_value, round}
 use Rattle.mr_values.specs.Timing.{least_term, low_end, high_end}
 use Rattle.mr_values.proofs.Ring.{*ℤ-+ℤ, *ℤ_assoc}

@@ -1,5 +1,5 @@
 -- The bound of the rounding error.
-use Rattle.std.proofs.Common.{◌≡◌, ◌∙◌, ℕ, zero, suc, ◌+◌, ◌-◌, ◌*◌, ◌/◌, ◌%◌, ◌^◌, ◌<◌, ◌≤◌, refl, sym, ap, arith, subst, List, [], ◌∷◌, ℤ, pos, negsuc, neg_ℤ, ◌+ℤ◌, ◌-ℤ◌, ◌*ℤ◌, ◌≤ℤ◌, Option, None, Some, Bool, true, false, cond, nat_eq}
+use Rattle.std.proofs.Common.{◌≡◌, ◌∙◌, ℕ, zero, suc, ◌+◌, ◌-◌, ◌*◌, ◌^◌, ◌<◌, ◌≤◌, refl, sym, ap, arith, subst, List, [], ◌∷◌, ℤ, pos, negsuc, neg_ℤ, ◌+ℤ◌, ◌-ℤ◌, ◌*ℤ◌, None, Some, Bool, true, false, cond, nat_eq}
 use Rattle.std.specs.Prelude.{All, unsigned_abs}
 use Rattle.std.proofs.lemmas.Int.{ints, unsigned_abs-mul}
 use Rattle.std.proofs.lemmas.Nat.{pow_pos, pow-add}
@@ -14,8 +14,8 @@ use Rattle.mr_values.specs.Sequence.{Sequence, samples, weighted_sum, up, down, 
 use Rattle.mr_values.specs.Value.{size, apply, chain, round_value, IsWithinLimits}
 use Rattle.mr_values.specs.Timing.{Group, Fir, DownCic, UpCic, Rounding, groups, join_up, join_filter}
 use Rattle.mr_values.proofs.Division.{floor_split, floor_remainder_below, pow_halves}
-use Rattle.mr_values.proofs.Ring.{*ℤ-+ℤ, +ℤ-*ℤ, *ℤ_assoc}
-use Rattle.plan_check.specs.Amounts.{magnitude, round_error, RoundingError, error_after, error_after_all, no_error}
+use Rattle.mr_values.proofs.Ring.{*ℤ-+ℤ, *ℤ_assoc}
+use Rattle.plan_check.specs.Amounts.{magnitude, round_error, RoundingError, error_after_all, no_error}
 use Rattle.plan_check.proofs.GroupSplit.{size_low, tail_limits}
 use Rattle.plan_check.proofs.Narrow.{triangle}
 use Rattle.plan_laws.specs.Laws.{plain, BoundHolds}

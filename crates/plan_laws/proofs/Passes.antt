@@ -1,9 +1,9 @@
 -- What it says of a plan that it is accepted: each test passes.
-use Rattle.std.proofs.Common.{◌≡◌, ℕ, None}
+use Rattle.std.proofs.Common.{◌≡◌, None}
 use Rattle.mr_values.specs.declared.plan.Plan.{Plan}
 use Rattle.mr_values.specs.Value.{size}
 use Rattle.mr_values.specs.Timing.{groups}
-use Rattle.plan_check.specs.Limits.{limits_test, HasLimits}
+use Rattle.plan_check.specs.Limits.{HasLimits}
 use Rattle.plan_check.specs.Accepted.{rates_test, peaks_test, bounds_test, fits_test, costs_test, IsAccepted}
 use Rattle.plan_check.proofs.Options.{none_of}
 use Rattle.plan_check.proofs.LimitFacts.{has_limits}

@@ -1,5 +1,5 @@
 -- On how many samples a value depends.
-use Rattle.std.proofs.Common.{◌≡◌, ◌∙◌, ℕ, zero, suc, ◌+◌, ◌-◌, ◌*◌, ◌/◌, ◌%◌, ◌^◌, ◌<◌, ◌≤◌, refl, sym, ap, arith, subst, List, [], ◌∷◌, length, ℤ, pos, negsuc, ◌+ℤ◌, ◌-ℤ◌, ◌*ℤ◌, ◌≤ℤ◌, ◌<ℤ◌, Option, None, Some, Bool, true, false, cond, nat_eq, ◌⊎◌, inl, inr}
+use Rattle.std.proofs.Common.{◌≡◌, ◌∙◌, ℕ, zero, suc, ◌+◌, ◌-◌, ◌*◌, ◌%◌, ◌<◌, ◌≤◌, refl, sym, ap, arith, subst, List, [], ◌∷◌, length, ℤ, pos, ◌+ℤ◌, ◌-ℤ◌, ◌*ℤ◌, ◌≤ℤ◌, ◌<ℤ◌, Option, None, Some, Bool, true, false, cond, nat_eq, inl, inr}
 use Rattle.std.specs.Prelude.{All, unwrap_or}
 use Rattle.std.proofs.lemmas.Int.{ints}
 use Rattle.std.proofs.lemmas.Nat.{div-add-mod', mod_below}
@@ -13,17 +13,17 @@ use Rattle.mr_values.specs.declared.plan.Element.TheVariants.{Up, Down, Filter, 
 use Rattle.mr_values.specs.declared.plan.Form.{Form}
 use Rattle.mr_values.specs.Width.{floor_quotient, floor_remainder}
 use Rattle.mr_values.specs.Sequence.{Sequence, samples, weighted_sum, up, down, filter, filter_times, ones, cic_down, cic_up}
-use Rattle.mr_values.specs.Value.{size, apply, chain, round, IsWithinLimits}
-use Rattle.mr_values.specs.Timing.{Group, Fir, DownCic, UpCic, Rounding, groups, join_up, join_filter, taps_of, ceil_div, up_factor, down_factor, period_after, after_all, input, Stream, after}
+use Rattle.mr_values.specs.Value.{size, chain, round, IsWithinLimits}
+use Rattle.mr_values.specs.Timing.{Group, Fir, DownCic, UpCic, Rounding, groups, join_up, join_filter, ceil_div, up_factor, down_factor, period_after, after_all, input, Stream, after}
 use Rattle.mr_values.proofs.Division.{floor_split, floor_unique}
 use Rattle.mr_values.proofs.Ring.{+ℤ-*ℤ}
-use Rattle.plan_check.specs.Groups.{IsGroup, size_of, first_failing}
+use Rattle.plan_check.specs.Groups.{size_of, first_failing}
 use Rattle.plan_check.specs.Amounts.{rate_test}
 use Rattle.plan_check.specs.Accepted.{rates_test}
 use Rattle.plan_check.specs.Costs.{Spread, memory_of, spread_after}
 use Rattle.plan_check.proofs.Options.{none_of}
 use Rattle.plan_check.proofs.GroupSplit.{size_low, tail_limits}
-use Rattle.plan_laws.specs.Laws.{spread_after_all, reach_of, HaveNoRound, ReachHolds}
+use Rattle.plan_laws.specs.Laws.{spread_after_all, HaveNoRound, ReachHolds}
 
 -- ---- groups as transforms
 

@@ -1,15 +1,14 @@
 -- The span holds every value of a chain.
-use Rattle.std.proofs.Common.{◌≡◌, ◌∙◌, ℕ, zero, suc, ◌+◌, ◌-◌, ◌*◌, ◌^◌, ◌<◌, ◌≤◌, refl, sym, ap, arith, subst, List, [], ◌∷◌, length, get_or, ℤ, pos, negsuc, neg_ℤ, ◌≤ℤ◌}
+use Rattle.std.proofs.Common.{ℕ, zero, suc, ◌-◌, ◌*◌, ◌^◌, ◌≤◌, sym, arith, subst, List, [], ◌∷◌, ℤ, pos, negsuc, neg_ℤ}
 use Rattle.std.specs.Prelude.{All}
 use Rattle.std.proofs.lemmas.Int.{ints}
-use Rattle.std.proofs.lemmas.List.{get_or_past}
 use Rattle.std.proofs.lemmas.Nat.{pow_pos}
 use Rattle.mr_values.specs.declared.plan.Element.{Element}
 use Rattle.mr_values.specs.declared.plan.Element.TheVariants.{Up, Down, Filter, CicDown, CicUp, Round}
 use Rattle.mr_values.specs.Width.{FitsWidth}
 use Rattle.mr_values.specs.Sequence.{Sequence, samples, filter_times, ones, up}
-use Rattle.mr_values.specs.Value.{size, apply, chain, val, IsWithinLimits}
-use Rattle.mr_values.specs.Timing.{groups, Stream, input, after_all, last_stream}
+use Rattle.mr_values.specs.Value.{size, apply, chain, IsWithinLimits}
+use Rattle.mr_values.specs.Timing.{groups, input, last_stream}
 use Rattle.mr_values.proofs.Zeros.{zeros, apply-zeros, IsRounding}
 use Rattle.plan_check.proofs.GroupSplit.{size_low, tail_limits}
 use Rattle.plan_laws.specs.Laws.{IsBetween, SpanHolds}

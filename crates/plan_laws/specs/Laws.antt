@@ -1,10 +1,10 @@
 -- What the numbers of a plan say of its values.
-use Rattle.std.specs.Prelude.{ℕ, ◌+◌, ◌*◌, ◌-◌, ◌^◌, ◌≤◌, List, [], ◌∷◌, All, ℤ, pos, ◌+ℤ◌, ◌-ℤ◌, ◌*ℤ◌, ◌≤ℤ◌, ◌<ℤ◌, ◌≡◌, unsigned_abs}
+use Rattle.std.specs.Prelude.{ℕ, ◌-◌, ◌^◌, ◌≤◌, List, [], ◌∷◌, All, ℤ, pos, ◌+ℤ◌, ◌-ℤ◌, ◌*ℤ◌, ◌≤ℤ◌, ◌<ℤ◌, ◌≡◌, unsigned_abs}
 use Rattle.mr_values.specs.declared.plan.Element.{Element}
 use Rattle.mr_values.specs.declared.plan.Element.TheVariants.{Up, Down, Filter, CicDown, CicUp, Round}
 use Rattle.mr_values.specs.Width.{FitsWidth}
 use Rattle.mr_values.specs.Sequence.{samples}
-use Rattle.mr_values.specs.Value.{val, IsWithinLimits}
+use Rattle.mr_values.specs.Value.{val}
 use Rattle.mr_values.specs.Timing.{Group, groups, last_stream, period_after}
 use Rattle.plan_check.specs.Amounts.{peak_after, error_after_all, no_error}
 use Rattle.plan_check.specs.Costs.{Spread, spread_after}

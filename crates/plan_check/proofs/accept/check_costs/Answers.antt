@@ -1,4 +1,4 @@
-use Rattle.std.proofs.Common.{◌≡◌, ◌∙◌, ℕ, ℤ, ◌+◌, ◌++◌, [], ◌∷◌, List, ap, sym, refl, subst, arith}
+use Rattle.std.proofs.Common.{◌≡◌, ◌∙◌, ℕ, ◌+◌, ◌++◌, List, ap, sym, refl, subst, arith}
 use Rattle.mr_values.specs.Timing.{groups, input, after, after_all, Stream}
 use Rattle.plan_check.specs.declared.facts.GroupFacts.{GroupFacts}
 use Rattle.plan_check.specs.Groups.{group_of, size_of, first_failing}

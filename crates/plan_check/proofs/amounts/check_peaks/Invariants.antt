@@ -1,4 +1,4 @@
-use Rattle.std.proofs.Common.{◌≡◌, ◌+◌, ◌-◌, ◌^◌, ◌≤◌, length}
+use Rattle.std.proofs.Common.{◌≡◌, ◌+◌, ◌^◌, ◌≤◌, length}
 use Rattle.std.specs.Prelude.{All}
 use Rattle.mr_values.specs.Value.{IsWithinLimits}
 use Rattle.mr_values.specs.Timing.{groups}

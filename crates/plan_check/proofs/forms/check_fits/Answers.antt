@@ -1,5 +1,5 @@
-use Rattle.std.proofs.Common.{◌≡◌, ◌∙◌, ℕ, ℤ, ◌+◌, ap, sym, refl, subst, arith}
-use Rattle.mr_values.specs.Timing.{groups, input}
+use Rattle.std.proofs.Common.{◌∙◌, ℕ, ◌+◌, ap, sym, refl, subst, arith}
+use Rattle.mr_values.specs.Timing.{groups}
 use Rattle.plan_check.specs.Groups.{group_of, size_of, first_failing}
 use Rattle.plan_check.specs.Forms.{Flow, fit_test, flow_after}
 use Rattle.plan_check.specs.Views.{as_flow}
