@@ -1,16 +1,14 @@
 -- What the machine has read so far of an expression, with the brackets that its trees have lost.
-use Rattle.std.proofs.Common.{◌≡◌, ℕ, ◌+◌, ◌<◌, ◌≤◌, false, List, [], ◌∷◌, Some, None}
+use Rattle.std.proofs.Common.{ℕ, ◌+◌, ◌<◌, ◌≤◌, false, List, [], ◌∷◌, Some, None}
 use Rattle.std.specs.Prelude.{Option}
 use Rattle.verilog_tree.specs.declared.tree.Op.{Op}
 use Rattle.verilog_tree.specs.declared.tree.ShiftOp.{ShiftOp}
-use Rattle.verilog_tree.specs.Tree as tree
-use Rattle.verilog_tree.specs.Tree.{Tree, Trees}
 use Rattle.verilog_text.specs.declared.token.Decimal.{Decimal}
 use Rattle.verilog_text.specs.declared.token.Mark.{Mark}
 use Rattle.verilog_text.specs.declared.token.Mark.TheVariants as mark
 use Rattle.verilog_text.specs.declared.token.Token.{Token}
 use Rattle.verilog_text.specs.declared.token.Token.TheVariants as token
-use Rattle.verilog_text.specs.Grammar.{Source, Sources, Named, BitOf, PartOf, Number, Based, Bracketed, Joined, Inverted, Operated, Shifted, Chosen, no_member, member, marked, written, written_members, tree_of, trees_of, rank, looseness, is_plain, IsGrouped, AreGrouped, depth, depths, operators, operators_in, Limits}
+use Rattle.verilog_text.specs.Grammar.{Source, Sources, Named, Shifted, no_member, member, marked, written, tree_of, trees_of, rank, looseness, IsGrouped, AreGrouped, depth, depths, operators, operators_in, Limits}
 use Rattle.verilog_text.specs.Machine.{Frame, InBracket, InNot, InMembers, InRight, InYes, InNo, Operand, After, Amount, Selecting, Selected, Lowing, Closing, State, at, levels}
 use Rattle.verilog_text.proofs.Steps.{room, Fits}
 

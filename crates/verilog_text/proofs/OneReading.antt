@@ -6,7 +6,7 @@ use Rattle.verilog_tree.specs.Renaming.{number_in}
 use Rattle.verilog_text.specs.declared.token.Token.{Token}
 use Rattle.verilog_text.specs.Grammar.{limits}
 use Rattle.verilog_text.specs.Text.{Text, tokens_of, clock_text}
-use Rattle.verilog_text.specs.TextMachine.{drafted, Draft}
+use Rattle.verilog_text.specs.TextMachine.{Draft}
 use Rattle.verilog_text.specs.Lexer.{Placed}
 use Rattle.verilog_text.specs.Names.{names_behind, Inside, lexemes_of}
 use Rattle.verilog_text.specs.Reading.{declared_places, with_places, design_of, Reads}

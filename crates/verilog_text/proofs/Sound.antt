@@ -1,20 +1,16 @@
 -- What the machine has accepted so far of an expression is the beginning of one, and at its end a whole one.
-use Rattle.std.proofs.Common.{◌≡◌, ℕ, ◌+◌, ◌-◌, ◌<◌, ◌≤◌, Bool, true, false, cond, List, [], ◌∷◌, Some, None, Result, Ok, Err, refl, sym, ap, ◌∙◌, subst, arith, inl, inr}
-use Rattle.std.specs.Prelude.{nat_lt, nat_le, Option}
+use Rattle.std.proofs.Common.{◌≡◌, ℕ, ◌+◌, ◌-◌, ◌<◌, ◌≤◌, Bool, true, false, cond, List, [], ◌∷◌, None, Result, Ok, Err, refl, sym, ap, ◌∙◌, subst, arith, inl, inr}
+use Rattle.std.specs.Prelude.{nat_lt, nat_le}
 use Rattle.std.proofs.lemmas.Bool.{ltb-true, leb-true, leb-false, cond-true, cond-false, cases_Bool}
-use Rattle.verilog_tree.specs.declared.tree.Op.{Op}
-use Rattle.verilog_tree.specs.declared.tree.ShiftOp.{ShiftOp}
 use Rattle.verilog_tree.specs.Tree as tree
 use Rattle.verilog_tree.specs.Tree.{Tree, Trees}
-use Rattle.verilog_text.specs.declared.token.Decimal.{Decimal}
 use Rattle.verilog_text.specs.declared.token.Mark.{Mark}
 use Rattle.verilog_text.specs.declared.token.Mark.TheVariants as mark
 use Rattle.verilog_text.specs.declared.token.Token.{Token}
 use Rattle.verilog_text.specs.declared.token.Token.TheVariants as token
-use Rattle.verilog_text.specs.declared.token.Why.{Why}
 use Rattle.verilog_text.specs.declared.token.Why.TheVariants as why
 use Rattle.verilog_text.specs.Grammar.{Source, Sources, Named, BitOf, PartOf, Number, Based, Bracketed, Joined, Inverted, Operated, Shifted, Chosen, no_member, member, marked, written, written_members, tree_of, trees_of, rank, looseness, is_plain, HasMember, IsGrouped, AreGrouped, depth, depths, operators, operators_in, Limits}
-use Rattle.verilog_text.specs.Machine.{Frame, InBracket, InNot, InMembers, InRight, InYes, InNo, Phase, Operand, After, Amount, State, at, levels, fold_to, opened, operated, shifted, with_last, closed, parted, joined, turned, selecting, Selecting, step}
+use Rattle.verilog_text.specs.Machine.{Frame, InBracket, InNot, InMembers, InRight, InYes, InNo, Operand, After, Amount, State, at, levels, fold_to, opened, operated, shifted, with_last, closed, parted, joined, turned, selecting, Selecting, step}
 use Rattle.verilog_text.proofs.Shortest.{rank_bounds}
 use Rattle.verilog_text.proofs.Steps.{room, IsFree, Fits}
 use Rattle.verilog_text.proofs.Around.{Around, AroundBracket, AroundNot, AroundMembers, AroundRight, AroundYes, AroundNo, Part, Waiting, Ended, Amounting, InSelect, WithHigh, BeforeLow, WithLow, frame_of, frames, begun, before, spent, IsGood, bare_of, state_of, text_of, IsOpen, IsFine}

@@ -1,21 +1,19 @@
 -- What the machine has accepted so far of a text is the beginning of one, and at its end a whole one.
-use Rattle.std.proofs.Common.{◌≡◌, ℕ, ◌+◌, ◌≤◌, ◌⊎◌, inl, inr, Bool, true, false, cond, List, [], ◌∷◌, ◌++◌, Some, None, Result, Ok, Err, refl, sym, ap, ◌∙◌, subst, arith, append_assoc}
-use Rattle.std.specs.Prelude.{map, Option, ◌==◌, ◌&&◌}
+use Rattle.std.proofs.Common.{◌≡◌, ℕ, ◌+◌, ◌≤◌, ◌⊎◌, inl, inr, Bool, true, false, List, [], ◌∷◌, ◌++◌, Some, None, Result, Ok, Err, refl, sym, ap, ◌∙◌, subst, arith, append_assoc}
+use Rattle.std.specs.Prelude.{map, Option, ◌&&◌}
 use Rattle.std.proofs.lemmas.List.{append-nil}
 use Rattle.std.proofs.lemmas.Bool.{eqb-true}
 use Rattle.verilog_tree.specs.declared.tree.Kind.{Kind}
-use Rattle.verilog_tree.specs.declared.tree.Kind.TheVariants as kind
 use Rattle.verilog_tree.specs.declared.tree.Signal.{Signal}
 use Rattle.verilog_tree.specs.Tree.{Tree, Action, Assignment}
 use Rattle.verilog_text.specs.declared.token.Decimal.{Decimal}
-use Rattle.verilog_text.specs.declared.token.Mark.{Mark}
 use Rattle.verilog_text.specs.declared.token.Mark.TheVariants as mark
 use Rattle.verilog_text.specs.declared.token.Word.{Word}
 use Rattle.verilog_text.specs.declared.token.Word.TheVariants as word
 use Rattle.verilog_text.specs.declared.token.Token.{Token}
 use Rattle.verilog_text.specs.declared.token.Token.TheVariants as token
 use Rattle.verilog_text.specs.declared.token.Why.{Why}
-use Rattle.verilog_text.specs.Grammar.{Source, marked, written, tree_of, IsGrouped, depth, operators, Limits}
+use Rattle.verilog_text.specs.Grammar.{marked, Limits}
 use Rattle.verilog_text.specs.Machine as inner
 use Rattle.verilog_text.specs.StatementMachine as statement
 use Rattle.verilog_text.specs.Statements.{Statement, worded, statement_text, action_of, IsParted, height, IsShort}

@@ -15,7 +15,7 @@ use Rattle.verilog_text.specs.Grammar.{Source, marked, written, tree_of, IsGroup
 use Rattle.verilog_text.specs.Machine as inner
 use Rattle.verilog_text.specs.StatementMachine as statement
 use Rattle.verilog_text.specs.Statements.{worded, statement_text, action_of}
-use Rattle.verilog_text.specs.Text.{Text, Shape, Direction, Inward, Outward, FreshPort, Port, Fresh, Same, Store, InWire, InReg, Item, Declared, Assigned, Clocked, if_word, shape_text, direction_word, fresh_text, ports_text, names_text, store_word, item_text, items_text, tokens_of, IsItem, AreItems, direction_kind, store_kind, signal_of, fresh_signal, port_signals, item_signals, items_signals, signals_of, item_assigns, assigns_of, item_blocks, blocks_of}
+use Rattle.verilog_text.specs.Text.{Text, Shape, Direction, Inward, Outward, FreshPort, Port, Fresh, Same, Store, InWire, InReg, Item, Declared, Assigned, Clocked, if_word, shape_text, direction_word, fresh_text, ports_text, names_text, store_word, item_text, items_text, tokens_of, IsItem, AreItems, direction_kind, store_kind, signal_of, fresh_signal, port_signals, item_signals, items_signals, item_assigns, assigns_of, item_blocks, blocks_of}
 use Rattle.verilog_text.specs.TextMachine.{drafted, Wirable, Signable, Opening, FirstPort, Heading, Listed, NextPort, Nameable, Naming, PortsClosed, AtItem, Targeting, Assigning, Valued, AtEvent, InEvent, OnEdge, AtClock, EventClosed, Running, Done, Draft, State, at, declaring, or_over, or_assigned, value_lifted, statement_lifted, step, empty, start, and_then, run}
 use Rattle.verilog_text.proofs.Passing.{Passing, one, chained, lift, resume}
 use Rattle.verilog_text.proofs.Steps as steps

@@ -1,3 +1,4 @@
 pub mod Writings
 pub mod Digits
 pub mod Whole
+pub mod Small

@@ -98,3 +98,39 @@ pub fn text_of(alloc: Global, module: &Module) -> Result<Vec<u8>, Memory>
     let tokens = tokens_of(alloc, module)?;
     bytes_of(alloc, &module.names, &tokens)
 }
+
+#[cfg(test)]
+mod tests {
+    use super::*;
+    use std::test::Fail;
+    use verilog_tree::{Kind, Signal};
+
+    #[test]
+    fn a_clock_alone(rt: HostRuntime) -> Result<(), Fail> {
+        let alloc = rt.alloc();
+        let mut names = Vec::new(alloc);
+        names.push(Text::from_str(alloc, "m")?)?;
+        names.push(Text::from_str(alloc, "clk")?)?;
+        let mut signals = Vec::new(alloc);
+        signals.push(Signal {
+            name: 1,
+            kind: Kind::Input,
+            signed: false,
+            ranged: false,
+            width: 1,
+            place: 0,
+        })?;
+        let design = Module {
+            name: 0,
+            names,
+            signals,
+            assigns: Vec::new(alloc),
+            blocks: Vec::new(alloc),
+        };
+        let text = text_of(alloc, &design)?;
+        let expected =
+            b"/* verilator lint_off WIDTH */\n// Wadrelion\nmodule m (input clk);\nendmodule\n";
+        assert_eq!(rt; text.as_slice(), expected.as_slice());
+        Ok(())
+    }
+}
