@@ -1,0 +1,26 @@
+-- Which stages are linear, and which carry their elements in whole numbers.
+use Rattle.std.specs.Prelude.{Bool, true, false}
+use Rattle.stage_law.specs.declared.stage.Kind.{Kind}
+use Rattle.stage_law.specs.declared.stage.Kind.TheVariants.{Parallel, Symmetric, HalfBand, Folded, Distributed, CicDown, CicUp, Rounding}
+
+-- its registers have the least widths, and each holds in the run what it holds uncut
+abbrev pub is_linear : Kind → Bool
+is_linear Parallel = true
+is_linear Symmetric = true
+is_linear HalfBand = true
+is_linear Folded = true
+is_linear Distributed = false
+is_linear CicDown = false
+is_linear CicUp = false
+is_linear Rounding = false
+
+-- it carries its elements in the uncut run too
+abbrev pub carries_uncut : Kind → Bool
+carries_uncut Parallel = true
+carries_uncut Symmetric = true
+carries_uncut HalfBand = true
+carries_uncut Folded = true
+carries_uncut Distributed = true
+carries_uncut CicDown = true
+carries_uncut CicUp = true
+carries_uncut Rounding = false

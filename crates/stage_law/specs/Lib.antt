@@ -1,0 +1,6 @@
+pub mod Facts
+pub mod Kinds
+pub mod Least
+pub mod Range
+pub mod Realises
+pub mod Streams
