@@ -25,6 +25,7 @@ use Rattle.net_graph.proofs.GrowLemmas.{IsOfControl-later, GrowsBut, GrowsBut-re
 use Rattle.pipeline_balance.specs.Numbered.{AddsNext, name_of}
 use Rattle.pipeline_balance.specs.Gate.{IsTickOf, IsCounter}
 use Rattle.pipeline_balance.proofs.WrapLemmas.{wrap-+, wrap_twice, wrap_apart, wrap-one, equality-same, equality_apart}
+use Rattle.pipeline_balance.proofs.CostLemmas.{SameAdders-trans, SameAdders-register, SameAdders-plain, SameAdders-control, SameAdders-bind, SameNamed-trans, SameNamed-adds, SameNamed-register, SameNamed-bind}
 use Rattle.pipeline_balance.proofs.NumberedLemmas.{free_register, free_adds, free_bind}
 
 pub wrap-set_bit : wrap 1 set_bit ≡ set_bit
@@ -217,6 +218,10 @@ IsCounter-circuit {n0} {n1} {n2} {n3} {n4} {n5} {n6} {n7} {n8} {w} {period} {fir
         free = λ name other f. free_bind (GrowsBut-unbound p7) b name
             (free_adds a7 name (free_adds a6 name (free_adds a5 name (free_adds a4 name (free_adds a3 name (free_adds a2 name (free_register a1.adds name (λ e. other (ap (λ (m : Name). m.kind) e)) f)))))));
       };
+      adders = SameAdders-trans (SameAdders-register a1.adds) (SameAdders-trans (SameAdders-plain a2 refl) (SameAdders-trans (SameAdders-plain a3 refl) (SameAdders-trans (SameAdders-plain a4 refl)
+          (SameAdders-trans (SameAdders-plain a5 refl) (SameAdders-trans (SameAdders-control g5 a6) (SameAdders-trans (SameAdders-plain a7 refl) (SameAdders-bind (GrowsBut-unbound p7) b)))))));
+      named = SameNamed-trans (SameNamed-register refl refl a1.adds) (SameNamed-trans (SameNamed-adds a2) (SameNamed-trans (SameNamed-adds a3) (SameNamed-trans (SameNamed-adds a4)
+          (SameNamed-trans (SameNamed-adds a5) (SameNamed-trans (SameNamed-adds a6) (SameNamed-trans (SameNamed-adds a7) (SameNamed-bind (GrowsBut-unbound p7) b)))))));
     }
   where
     counts : GrowsBut n0 n7 count (record { group = n0.group; name = Some (name_of 0 Control a1.number); width = w; item = None }) → Extends n7.cells n8.cells → (cut : Cut) → IsCut cut → (x : ℕ → ℤ) (v : Values) → IsRun cut n8.cells x v → Counts v w first (pos (first + 1) -ℤ pos period) count last restart one done more next
@@ -268,5 +273,7 @@ IsCounter-regroup {old} {mid} {new} {last} {ticks} {bit} {group} same first put_
       nameless = q.nameless;
       bit_of = q.bit_of;
       names = q.names;
+      adders = q.adders;
+      named = q.named;
     } in
     subst (λ (m : NetView). IsCounter old m ticks bit) (sym (put_back ∙ ap (λ (g : ℕ). let n : NetView = record { cells = new.cells; group = g } in n) same)) r

@@ -14,6 +14,8 @@ use Rattle.pipeline_balance.specs.Numbered.{IsCounted, IsTouched, LeavesFree, na
 use Rattle.pipeline_balance.specs.Gate.{HasTaken, IsTaken}
 use Rattle.pipeline_balance.specs.Leaves.{delayed}
 use Rattle.pipeline_balance.specs.Phase.{IsDelay}
+use Rattle.pipeline_balance.proofs.CostLemmas.{SameAdders-refl, SameAdders-trans, SameNamed-refl, SameNamed-trans}
+use Rattle.pipeline_balance.proofs.WindowLemmas.{SameNamed-taken}
 use Rattle.pipeline_balance.proofs.NumberedLemmas.{LeavesFree-refl, LeavesFree-trans, IsCounted-more, least_is}
 
 -- every tick of a stream of period 1 takes one value
@@ -29,6 +31,8 @@ IsDelay-none net from h = record {
   delays = λ cut law x v r t. refl;
   counted = λ count c. let same : count ≡ count + 0 = omega arith in subst (λ (n : ℕ). IsCounted net.cells net.group Register n) same c;
   names = LeavesFree-refl net.cells (IsTouched net.group Register);
+  adders = SameAdders-refl net.cells;
+  named = SameNamed-refl net.cells;
 }
 
 pub IsDelay-more : {a b c : NetView} {from last to : Node} {ticks group number : ℕ} → group ≡ a.group → IsDelay a b from ticks last → IsLeastFree b.cells group Register number → IsTaken b c (record { node = last; period = 1; offset = 0 }) (name_of group Register number) to → IsDelay a c from (suc ticks) to
@@ -46,6 +50,8 @@ IsDelay-more {a} {b} {c} {from} {last} {to} {ticks} {group} {number} same p leas
       subst (λ (k : ℕ). IsCounted c.cells a.group Register k) more (IsCounted-more a.group Register (count + ticks) t.grows.extends leaves used (p.counted count n));
   names = LeavesFree-trans a.cells b.cells c.cells (IsTouched a.group Register) (λ name. name ≡ name_of group Register number) (IsTouched a.group Register) (λ name h. h)
       (λ name h. inl (ap (λ (n : Name). n.group) h ∙ same, ap (λ (n : Name). n.kind) h)) p.names t.names;
+  adders = SameAdders-trans p.adders t.adders;
+  named = SameNamed-trans p.named (SameNamed-taken refl refl t);
 }
   where
     step : (cut : Cut) → IsCut cut → (x : ℕ → ℤ) (v : Values) → IsRun cut c.cells x v → (s : ℕ) → v s to.place ≡ delayed (suc ticks) s (λ u. v u from.place)

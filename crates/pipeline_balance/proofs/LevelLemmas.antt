@@ -11,6 +11,8 @@ use Rattle.net_graph.proofs.GrowLemmas.{Grows-refl, Grows-trans}
 use Rattle.pipeline_balance.specs.Numbered.{IsRegister, IsCounted, IsTouched, LeavesFree, name_of}
 use Rattle.pipeline_balance.specs.Leaves.{segment}
 use Rattle.pipeline_balance.specs.Tree.{IsSum, AddsSum, IsLevel, pair_adders}
+use Rattle.pipeline_balance.specs.Costs.{SameNamed}
+use Rattle.pipeline_balance.proofs.CostLemmas.{SameNamed-refl, SameNamed-trans}
 use Rattle.pipeline_balance.proofs.NumberedLemmas.{IsRegister-later, LeavesFree-refl, LeavesFree-trans}
 use Rattle.pipeline_balance.proofs.PairLemmas.{IsSum-later}
 
@@ -53,6 +55,7 @@ level_adders count = elim (cases_lt count ((count + 1) / 2 * 2)) [
 pub record LevelSoFar (old net : NetView) (leaves : List Leaf) (widths : List ℕ) (first : ℕ) (terms : List Leaf) : Type 0 where
   pub grows : Grows old net
   pub counts : adders_in old.group net.cells ≡ adders_in old.group old.cells + adders_below (length leaves) (length terms)
+  pub same_named : SameNamed old.cells net.cells
   pub each : (j : ℕ) (term : Leaf) → slice_get terms j ≡ Some term → IsSum net.cells (segment 1 j leaves) (get_or widths (first + j) 0) term
   pub named : (count : ℕ) → IsCounted old.cells old.group Register count → (j : ℕ) (term : Leaf) → slice_get terms j ≡ Some term → IsRegister net.cells term.node.place old.group (name_of old.group Register (count + j)) (get_or widths (first + j) 0)
   pub counted : (count : ℕ) → IsCounted old.cells old.group Register count → IsCounted net.cells old.group Register (count + length terms)
@@ -63,6 +66,7 @@ unfolding adders_below
 LevelSoFar-start net leaves widths first = record {
   grows = Grows-refl net;
   counts = omega arith;
+  same_named = SameNamed-refl net.cells;
   each = λ j term is. absurd (cc);
   named = λ count c j term is. absurd (cc);
   counted = λ count c. let same : count ≡ count + 0 = omega arith in subst (λ (n : ℕ). IsCounted net.cells net.group Register n) same c;
@@ -85,6 +89,7 @@ LevelSoFar-step {old} {net} {new} {leaves} {widths} {first} {terms} {term} p a =
           let sum : adders_below (length leaves) (suc (length terms)) ≡ adders_below (length leaves) (length terms) + pair_adders (length leaves) (length terms) = refl in
           let whole : adders_in old.group new.cells ≡ adders_in old.group old.cells + adders_below (length leaves) (suc (length terms)) = omega (arith, now, before, sum) in
           subst (λ (n : ℕ). adders_in old.group new.cells ≡ adders_in old.group old.cells + adders_below (length leaves) n) next whole;
+      same_named = SameNamed-trans p.same_named a.same_named;
       each = λ j found is. elim (slice_get_push_cases terms term j found is) [
         | inl before ↦ IsSum-later (p.each j found before) e
         | inr last ↦ rw (last.0, last.1) a.sum
@@ -115,6 +120,7 @@ LevelSoFar-level {old} {net} {leaves} {widths} {first} {terms} p many = record {
       let whole : adders_below (length leaves) (length terms) + length terms ≡ length leaves = subst (λ (n : ℕ). adders_below (length leaves) n + n ≡ length leaves) (sym many) (level_adders (length leaves)) in
       let c = p.counts in
       omega arith;
+  same_named = p.same_named;
   each = p.each;
   named = p.named;
   counted = p.counted;

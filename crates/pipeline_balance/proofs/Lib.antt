@@ -1,4 +1,5 @@
 pub mod WrapLemmas
+pub mod CostLemmas
 pub mod NumberedLemmas
 pub mod TakenLemmas
 pub mod CounterLemmas

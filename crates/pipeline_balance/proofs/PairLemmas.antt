@@ -26,6 +26,8 @@ use Rattle.net_graph.specs.Count.{adders_in}
 use Rattle.pipeline_balance.specs.Numbered.{AddsNext, IsRegister, IsCounted, IsTouched, LeavesFree, name_of}
 use Rattle.pipeline_balance.specs.Leaves.{signed_by, leaf_value, all_negative, held_sum, IsLeaf, IsNegatable}
 use Rattle.pipeline_balance.specs.Tree.{AddsNode, TakesNode, IsSum, AddsSum}
+use Rattle.pipeline_balance.specs.Costs.{SameNamed}
+use Rattle.pipeline_balance.proofs.CostLemmas.{SameNamed-refl, SameNamed-trans, SameNamed-adds, SameNamed-register, SameNamed-bind}
 use Rattle.pipeline_balance.proofs.NumberedLemmas.{width-later, free_adds, free_register, free_bind, LeavesFree-refl, LeavesFree-trans, IsCounted-leaves, IsCounted-more, least_is}
 
 pub IsLeaf-later : {old new : List Cell} {leaf : Leaf} → IsLeaf old leaf → Extends old new → IsLeaf new leaf
@@ -68,6 +70,7 @@ pub AddsNode-adds : {old new : NetView} {node : Node} {width : ℕ} {item : Item
 AddsNode-adds {old} {new} {node} {width} {item} adders value data_group a plain counts says = record {
   grows = Grows-data data_group a plain;
   counts = counts;
+  same_named = SameNamed-adds a;
   names = record { free = λ name other f. free_adds a name f };
   computes = record {
     within = slice_get_within new.cells node.place _ (cell_of_added a);
@@ -82,6 +85,7 @@ pub AddsNode-plain : (net : NetView) (leaf : Leaf) → leaf.place ≡ 0 → leaf
 AddsNode-plain net leaf e h = record {
   grows = Grows-refl net;
   counts = omega arith;
+  same_named = SameNamed-refl net.cells;
   names = LeavesFree-refl net.cells (λ name. ⊥);
   computes = record { within = h; holds = λ cut law x v r t. times_one (v t leaf.node.place) leaf.place e };
 }
@@ -109,6 +113,7 @@ TakesNode-bound {old} {mid} {new} {register} {from} {width} {group} data_group s
     record {
       grows = Grows-bind p wide b (λ is. absurd (cc));
       counts = adders_bind old.group (GrowsBut-unbound p) b ∙ adders_register old.group a.adds;
+      same_named = SameNamed-trans (SameNamed-register refl refl a.adds) (SameNamed-bind (GrowsBut-unbound p) b);
       number = a.number;
       least = subst (λ (g : ℕ). IsLeastFree old.cells g Register a.number) same a.least;
       register = subst (λ (n : Name). IsRegister new.cells register.place old.group n width) name_is (record { cell = _; there = there; of_group = refl; named = refl; wide = refl; registered = (from, refl) });
@@ -162,7 +167,7 @@ held-one v t a = one a.negative (v t a.node.place *ℤ pos (2 ^ a.place))
     one false z = omega (arith, ints)
 
 -- the parts that both sums share: nodes before, and then a register
-module _ {old mid new : NetView} {from register : Node} {width : ℕ} (adders : ℕ) (before : Grows old mid) (counts : adders_in old.group mid.cells ≡ adders_in old.group old.cells + adders) (names : LeavesFree old.cells mid.cells (λ name. ⊥)) (g : TakesNode mid new from width register) where
+module _ {old mid new : NetView} {from register : Node} {width : ℕ} (adders : ℕ) (before : Grows old mid) (counts : adders_in old.group mid.cells ≡ adders_in old.group old.cells + adders) (names : LeavesFree old.cells mid.cells (λ name. ⊥)) (same_named : SameNamed old.cells mid.cells) (g : TakesNode mid new from width register) where
   counts_after : adders_in old.group new.cells ≡ adders_in old.group old.cells + adders
   counts_after = subst (λ (n : ℕ). adders_in n new.cells ≡ adders_in n mid.cells) before.group g.counts ∙ counts
 
@@ -193,6 +198,7 @@ module _ {old mid new : NetView} {from register : Node} {width : ℕ} (adders : 
   AddsSum-register leaves negative sign is = record {
     grows = Grows-trans before g.grows;
     counts = counts_after;
+    same_named = SameNamed-trans same_named g.same_named;
     sum = record {
       place = refl;
       negative = sign;
@@ -220,7 +226,7 @@ pub AddsSum-two : {old n1 n2 n3 new : NetView} {left right sum register : Node} 
     → TakesNode n3 new sum width register → negative ≡ cond a.negative b.negative false
     → AddsSum old new (a ∷ b ∷ []) width 1 (record { node = register; place = 0; negative = negative })
 AddsSum-two {old} {n1} {n2} {n3} {new} {left} {right} {sum} {register} a b width negative l r s g e =
-    AddsSum-register 1 (Grows-trans l.grows (Grows-trans r.grows s.grows)) (counts_both old n1 n3 0 1 l.grows.group l.counts (counts_both n1 n2 n3 0 1 r.grows.group r.counts s.counts)) (names_both old n1 n3 l.names (names_both n1 n2 n3 r.names s.names)) g (a ∷ b ∷ []) negative (e ∙ sym (and_true a.negative b.negative))
+    AddsSum-register 1 (Grows-trans l.grows (Grows-trans r.grows s.grows)) (counts_both old n1 n3 0 1 l.grows.group l.counts (counts_both n1 n2 n3 0 1 r.grows.group r.counts s.counts)) (names_both old n1 n3 l.names (names_both n1 n2 n3 r.names s.names)) (SameNamed-trans l.same_named (SameNamed-trans r.same_named s.same_named)) g (a ∷ b ∷ []) negative (e ∙ sym (and_true a.negative b.negative))
     (λ cut law x v run t fits.
     let lefts = l.computes.holds cut law x v (r.grows.extends.runs cut law x v (s.grows.extends.runs cut law x v run)) t in
     let rights = r.computes.holds cut law x v (s.grows.extends.runs cut law x v run) t in
@@ -231,7 +237,7 @@ AddsSum-two {old} {n1} {n2} {n3} {new} {left} {right} {sum} {register} a b width
 pub AddsSum-one : {old mid new : NetView} {held register : Node} (a : Leaf) (width : ℕ) → AddsNode old mid 0 held (λ cut v t. v t a.node.place *ℤ pos (2 ^ a.place)) → TakesNode mid new held width register
     → AddsSum old new (a ∷ []) width 0 (record { node = register; place = 0; negative = a.negative })
 AddsSum-one {old} {mid} {new} {held} {register} a width l g =
-    AddsSum-register 0 l.grows l.counts l.names g (a ∷ []) a.negative (sym (just_true a.negative))
+    AddsSum-register 0 l.grows l.counts l.names l.same_named g (a ∷ []) a.negative (sym (just_true a.negative))
     (λ cut law x v run t fits. ap (cut false width) (l.computes.holds cut law x v run t ∙ sym (held-one v t a)) ∙ fits)
 
 -- ---- the root
@@ -250,6 +256,7 @@ AddsNode-negated {old} {mid} {zeroed} {new} {held} {zero} {root} term width wide
     record {
       grows = Grows-trans h.grows (Grows-trans gz ga);
       counts = counts_both old mid new 0 1 h.grows.group h.counts counts2;
+      same_named = SameNamed-trans h.same_named (SameNamed-trans (SameNamed-adds z) (SameNamed-adds a));
       names = record { free = λ name other f. free_adds a name (free_adds z name (h.names.free name other f)) };
       computes = record {
         within = slice_get_within new.cells root.place _ (cell_of_added a);
@@ -278,6 +285,7 @@ pub AddsNode-positive : {old new : NetView} {held : Node} (term : Leaf) → term
 AddsNode-positive term positive h = record {
   grows = h.grows;
   counts = h.counts;
+  same_named = h.same_named;
   names = h.names;
   computes = record {
     within = h.computes.within;

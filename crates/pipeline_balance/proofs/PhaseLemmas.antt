@@ -26,6 +26,8 @@ use Rattle.pipeline_balance.specs.Numbered.{AddsNext, LeavesFree, name_of}
 use Rattle.pipeline_balance.specs.Gate.{IsTickOf, IsBitOf, HasTaken, IsCounter}
 use Rattle.pipeline_balance.specs.Phase.{IsTickOfPhase, IsIndex, IsIndexOf, IsPhases}
 use Rattle.pipeline_balance.proofs.WrapLemmas.{wrap-+, wrap_twice, wrap_apart, wrap-one, equality-same, equality_apart}
+use Rattle.pipeline_balance.specs.Costs.{SameAdders, SameNamed}
+use Rattle.pipeline_balance.proofs.CostLemmas.{SameAdders-trans, SameAdders-register, SameAdders-plain, SameAdders-control, SameAdders-bind, SameNamed-trans, SameNamed-adds, SameNamed-register, SameNamed-bind}
 use Rattle.pipeline_balance.proofs.NumberedLemmas.{free_register, free_adds, free_bind, LeavesFree-trans}
 use Rattle.pipeline_balance.proofs.CounterLemmas.{as_control, control_added, control_then, wrap-set_bit, added_anyhow, there_then}
 use Rattle.pipeline_balance.proofs.TakenLemmas.{HasTaken-at, taken, off_tick, tick_is, IsBitOf-later}
@@ -164,6 +166,10 @@ IsIndex-circuit {n0} {n1} {n2} {n3} {n4} {n5} {n6} {n7} {n8} {n9} {w} {count} {o
         free = λ name other f. free_bind (GrowsBut-unbound p8) b name
             (free_adds a8 name (free_adds a7 name (free_adds a6 name (free_adds a5 name (free_adds a4 name (free_adds a3 name (free_adds a2 name (free_register a1.adds name (λ e. other (ap (λ (m : Name). m.kind) e)) f))))))));
       };
+      adders = SameAdders-trans (SameAdders-register a1.adds) (SameAdders-trans (SameAdders-plain a2 refl) (SameAdders-trans (SameAdders-plain a3 refl) (SameAdders-trans (SameAdders-plain a4 refl)
+          (SameAdders-trans (SameAdders-plain a5 refl) (SameAdders-trans (SameAdders-control g5 a6) (SameAdders-trans (SameAdders-plain a7 refl) (SameAdders-trans (SameAdders-plain a8 refl) (SameAdders-bind (GrowsBut-unbound p8) b))))))));
+      named = SameNamed-trans (SameNamed-register refl refl a1.adds) (SameNamed-trans (SameNamed-adds a2) (SameNamed-trans (SameNamed-adds a3) (SameNamed-trans (SameNamed-adds a4)
+          (SameNamed-trans (SameNamed-adds a5) (SameNamed-trans (SameNamed-adds a6) (SameNamed-trans (SameNamed-adds a7) (SameNamed-trans (SameNamed-adds a8) (SameNamed-bind (GrowsBut-unbound p8) b))))))));
     }
   where
     numbers : GrowsBut n0 n8 index (record { group = n0.group; name = Some (name_of 0 Control a1.number); width = w; item = None }) → Extends n8.cells n9.cells → (cut : Cut) → IsCut cut → (x : ℕ → ℤ) (v : Values) → IsRun cut n9.cells x v → Numbers v w count on index last none one done more next held
@@ -266,6 +272,8 @@ IsPhase-circuit {n0} {n1} {n2} {n3} {n4} {w} {phase} {on} {index} {number} {same
         clears = λ cut law x v r. let r0 = grows.extends.runs cut law x v r in phase_clears v w period first count phase on index number same clear bit wide positive below room (chooses cut law x v r) (gate.sets cut law x v r0) (gate.clears cut law x v r0) (counted.holds cut law x v r0);
       };
       names = record { free = λ name other f. free_adds a4 name (free_adds a3 name (free_adds a2 name (free_adds a1 name f))) };
+      adders = SameAdders-trans (SameAdders-plain a1 refl) (SameAdders-trans (SameAdders-plain a2 refl) (SameAdders-trans (SameAdders-plain a3 refl) (SameAdders-plain a4 refl)));
+      named = SameNamed-trans (SameNamed-adds a1) (SameNamed-trans (SameNamed-adds a2) (SameNamed-trans (SameNamed-adds a3) (SameNamed-adds a4)));
     }
   where
     chooses : (cut : Cut) → IsCut cut → (x : ℕ → ℤ) (v : Values) → IsRun cut n4.cells x v → Chooses v w phase on index number same clear bit
@@ -288,8 +296,8 @@ IsPhase-circuit {n0} {n1} {n2} {n3} {n4} {w} {phase} {on} {index} {number} {same
 pub HasShape-later : (old new : List Cell) (place : ℕ) (control : Bool) (width : ℕ) → Extends old new → HasShape old place control width → HasShape new place control width
 HasShape-later old new place control width e h = let kept = e.keeps place h.cell h.there in record { cell = kept.cell; there = kept.there; same_control = kept.control ∙ h.same_control; same_width = kept.width ∙ h.same_width }
 
-pub IsPhases-none : {old new : NetView} (period first count : ℕ) → Grows old new → LeavesFree old.cells new.cells (λ name. name.kind ≡ Control) → IsPhases old new period first count []
-IsPhases-none {old} {new} period first count e names = record { grows = e; shapes = λ phase bit is. absurd (cc); each = λ phase bit is. absurd (cc); names = names }
+pub IsPhases-none : {old new : NetView} (period first count : ℕ) → Grows old new → LeavesFree old.cells new.cells (λ name. name.kind ≡ Control) → SameAdders old.cells new.cells → SameNamed old.cells new.cells → IsPhases old new period first count []
+IsPhases-none {old} {new} period first count e names adders named = record { grows = e; shapes = λ phase bit is. absurd (cc); each = λ phase bit is. absurd (cc); names = names; adders = adders; named = named }
 
 pub IsPhases-push : {a b c : NetView} {period first count : ℕ} (bit : Node) (bits : List Node) → IsPhases a b period first count bits → IsCounter b c (IsTickOfPhase period first count (length bits)) bit → IsPhases a c period first count (bits ++ bit ∷ [])
 IsPhases-push {a} {b} {c} {period} {first} {count} bit bits p q = record {
@@ -303,6 +311,8 @@ IsPhases-push {a} {b} {c} {period} {first} {count} bit bits p q = record {
     | inr last ↦ rw (last.0, last.1) q.bit_of
   ];
   names = LeavesFree-trans a.cells b.cells c.cells (λ name. name.kind ≡ Control) (λ name. name.kind ≡ Control) (λ name. name.kind ≡ Control) (λ name h. h) (λ name h. h) p.names q.names;
+  adders = SameAdders-trans p.adders q.adders;
+  named = SameNamed-trans p.named q.named;
 }
 
 -- bits that were added as control are added to a net of any group
@@ -322,6 +332,8 @@ IsPhases-regroup {old} {mid} {new} {last} {period} {first} {count} {group} {bits
       shapes = q.shapes;
       each = q.each;
       names = q.names;
+      adders = q.adders;
+      named = q.named;
     } in
     subst (λ (m : NetView). IsPhases old m period first count bits) (sym (put_back ∙ ap (λ (g : ℕ). let n : NetView = record { cells = new.cells; group = g } in n) same)) r
 

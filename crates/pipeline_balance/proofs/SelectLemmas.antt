@@ -17,6 +17,7 @@ use Rattle.net_graph.proofs.GroupLemmas.{nameless_data}
 use Rattle.net_graph.proofs.NetLemmas.{cell_of_added}
 use Rattle.net_graph.proofs.GrowLemmas.{Grows-refl, Grows-trans, Grows-data}
 use Rattle.pipeline_balance.specs.Phase.{IsPhases, IsOnlySet, IsNarrow, IsSelection}
+use Rattle.pipeline_balance.proofs.CostLemmas.{SameAdders-refl, SameAdders-trans, SameAdders-plain, SameNamed-refl, SameNamed-trans, SameNamed-adds}
 use Rattle.pipeline_balance.proofs.NumberedLemmas.{width-later, free_adds, LeavesFree-refl}
 use Rattle.pipeline_balance.proofs.TakenLemmas.{chosen_kept, node_kept}
 
@@ -40,6 +41,8 @@ IsSelection-first net bits nodes width node first narrow = record {
   narrow = narrow;
   selects = λ cut law x v r t phase less only found is. one v t phase less found is;
   names = LeavesFree-refl net.cells (λ name. ⊥);
+  adders = SameAdders-refl net.cells;
+  named = SameNamed-refl net.cells;
 }
   where
     one : (v : Values) (t phase : ℕ) → phase < 1 → (found : Node) → slice_get nodes phase ≡ Some found → v t node.place ≡ v t found.place
@@ -73,6 +76,8 @@ IsSelection-more {a} {b} {c} {bits} {nodes} {count} {width} {last} {to} bit node
                 mux ∙ ap (λ (z : ℤ). chosen z (v t node.place) (v t last.place)) clear ∙ p.selects cut law x v rb t phase (omega arith) only found is
           ];
       names = record { free = λ name other f. free_adds m name (p.names.free name other f) };
+      adders = SameAdders-trans p.adders (SameAdders-plain m refl);
+      named = SameNamed-trans p.named (SameNamed-adds m);
     }
 
 -- ---- by the bits of phases

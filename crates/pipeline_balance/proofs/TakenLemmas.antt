@@ -18,6 +18,7 @@ use Rattle.net_graph.proofs.CellLemmas.{cell_at-there}
 use Rattle.net_graph.proofs.GroupLemmas.{nameless_data}
 use Rattle.net_graph.proofs.NetLemmas.{IsRun-keeps, cell_of_added}
 use Rattle.net_graph.proofs.GrowLemmas.{GrowsBut, GrowsBut-register, GrowsBut-adds, GrowsBut-unbound, Grows-bind, Extends-grown, cell_of_grown}
+use Rattle.pipeline_balance.proofs.CostLemmas.{SameAdders-trans, SameAdders-register, SameAdders-plain, SameAdders-bind, SameNamed-adds, SameNamed-bind, windows-register, tables-register}
 use Rattle.pipeline_balance.proofs.NumberedLemmas.{free_register, free_adds, free_bind}
 use Rattle.pipeline_balance.specs.Numbered.{IsRegister}
 use Rattle.pipeline_balance.specs.Gate.{IsTickOf, IsBitOf, IsGate, HasTaken, taken_value, shown, Holds, IsTaken}
@@ -165,6 +166,9 @@ IsTaken-gate {old} {mid} {last} {new} {from} {name} {on} {register} {next} {widt
             (gate.sets cut law x v old_run) (gate.clears cut law x v old_run);
       };
       names = record { free = λ other ne f. free_bind (GrowsBut-unbound p) b other (free_adds m other (free_register a other ne f)) };
+      adders = SameAdders-trans (SameAdders-register a) (SameAdders-trans (SameAdders-plain m refl) (SameAdders-bind (GrowsBut-unbound p) b));
+      windows = λ group. (SameNamed-bind (GrowsBut-unbound p) b).windows group ∙ (SameNamed-adds m).windows group ∙ windows-register group a;
+      tables = λ group. (SameNamed-bind (GrowsBut-unbound p) b).tables group ∙ (SameNamed-adds m).tables group ∙ tables-register group a;
     }
 
 -- a register that takes a node's value at every tick
@@ -185,6 +189,9 @@ IsTaken-plain {old} {mid} {new} {from} {name} {register} {width} wide inside sam
             taken_last 1 0 (λ t. set_bit) (λ t. v t from.place) (λ t. v t register.place) own.0 (λ t. own.1 t ∙ from_kept t) (λ t tick. refl) (λ t off. absurd (off (t, omega arith)));
       };
       names = record { free = λ other ne f. free_bind (GrowsBut-unbound p) b other (free_register a other ne f) };
+      adders = SameAdders-trans (SameAdders-register a) (SameAdders-bind (GrowsBut-unbound p) b);
+      windows = λ group. (SameNamed-bind (GrowsBut-unbound p) b).windows group ∙ windows-register group a;
+      tables = λ group. (SameNamed-bind (GrowsBut-unbound p) b).tables group ∙ tables-register group a;
     }
 
 -- every tick is one of such a stream

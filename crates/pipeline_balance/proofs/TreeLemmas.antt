@@ -22,6 +22,8 @@ use Rattle.net_graph.proofs.CountLemmas.{adders_plain}
 use Rattle.pipeline_balance.specs.Numbered.{IsRegister, IsCounted, IsTouched, LeavesFree, name_of}
 use Rattle.pipeline_balance.specs.Leaves.{delayed, signed_by, leaf_value, signed_sum, all_negative, held_sum, segment, IsLeaf, IsNegatable}
 use Rattle.pipeline_balance.specs.Tree.{AddsNode, IsLevel, level_count, count_to, SumsFit, AreRegisters, tree_adders, IsTree}
+use Rattle.pipeline_balance.specs.Costs.{SameNamed}
+use Rattle.pipeline_balance.proofs.CostLemmas.{SameNamed-refl, SameNamed-trans, SameNamed-adds}
 use Rattle.pipeline_balance.proofs.NumberedLemmas.{width-later, IsRegister-later, IsCounted-leaves, LeavesFree-refl, LeavesFree-trans, free_adds}
 use Rattle.pipeline_balance.proofs.PairLemmas.{IsNegatable-later}
 use Rattle.pipeline_balance.proofs.SegmentLemmas.{delayed_same, StandFor, HaveSigns, pair_sum, pair_negative, delayed-signed_by, level_count-zero, level_count-suc, count_to-mono, level_count_one, level_count-none, segment_leaf, segment_all}
@@ -77,6 +79,7 @@ pub record IsPart (old net : NetView) (leaves : List Leaf) (widths : List ℕ) (
   pub first : level ≡ 0 → terms ≡ leaves
   pub wide : (before : ℕ) → level ≡ suc before → (k : ℕ) (term : Leaf) → slice_get terms k ≡ Some term → (term.place ≡ 0) × ((cell_at net.cells term.node.place).width ≡ get_or widths (count_to (length leaves) before + k) 0)
   pub adders : adders_in old.group net.cells + length terms ≡ adders_in old.group old.cells + length leaves
+  pub same_named : SameNamed old.cells net.cells
   pub named : (count : ℕ) → IsCounted old.cells old.group Register count → (k : ℕ) (node : Node) → slice_get registers k ≡ Some node → IsRegister net.cells node.place old.group (name_of old.group Register (count + k)) (get_or widths k 0)
   pub counted : (count : ℕ) → IsCounted old.cells old.group Register count → IsCounted net.cells old.group Register (count + length registers)
   pub names : LeavesFree old.cells net.cells (IsTouched old.group Register)
@@ -225,6 +228,7 @@ module _ (old mid new : NetView) (leaves terms sums : List Leaf) (widths : List 
     adders =
         let now : adders_in old.group new.cells + length sums ≡ adders_in old.group mid.cells + length terms = subst (λ (g : ℕ). adders_in g new.cells + length sums ≡ adders_in g mid.cells + length terms) p.grows.group l.counts in
         now ∙ p.adders;
+    same_named = SameNamed-trans p.same_named l.same_named;
     named = more_named;
     counted = more_counted;
     names = LeavesFree-trans old.cells mid.cells new.cells (IsTouched old.group Register) (IsTouched mid.group Register) (IsTouched old.group Register) (λ name h. h) (λ name h. subst (λ (g : ℕ). IsTouched g Register name) p.grows.group h) p.names l.names;
@@ -241,6 +245,7 @@ IsPart-start net leaves widths h = record {
   first = λ e. refl;
   wide = λ before e. absurd (omega arith);
   adders = refl;
+  same_named = SameNamed-refl net.cells;
   named = λ count c k node is. absurd (cc);
   counted = λ count c. let same : count ≡ count + 0 = omega arith in subst (λ (n : ℕ). IsCounted net.cells net.group Register n) same c;
   names = LeavesFree-refl net.cells (IsTouched net.group Register);
@@ -331,6 +336,7 @@ module _ (old net : NetView) (leaves terms : List Leaf) (widths : List ℕ) (lev
         let one = one_term in
         let whole = all_adders leaves some in
         omega arith;
+    same_named = SameNamed-trans p.same_named n.same_named;
     named = λ count c k node found. IsRegister-later n.grows.extends (p.named count c k node found);
     counted = λ count c. IsCounted-leaves old.group Register (count + length registers) n.grows.extends n.names (λ k no. no) (p.counted count c);
     names = LeavesFree-trans old.cells net.cells new.cells (IsTouched old.group Register) (λ name. ⊥) (IsTouched old.group Register) (λ name h. h) (λ name no. absurd no) p.names n.names;
@@ -349,6 +355,7 @@ IsTree-none old new leaves widths levels root data_group empty a = rw empty (rec
   sums = λ cut law x v r fits t.
       r.each root.place _ (cell_of_added a) t ∙ ap (λ (c : Bool). cut c 1 (pos 0)) (nameless_data old.group true data_group) ∙ law.fitting false 1 (pos 0) (omega arith) (FitsWidth-zero 1) ∙ sym (delayed_nothing levels t);
   adders = adders_plain old.group a refl ∙ omega arith;
+  same_named = SameNamed-adds a;
   named = λ count c k node is. absurd (cc);
   counted = λ count c.
       let same : count ≡ count + 0 = omega arith in

@@ -1,5 +1,5 @@
 -- A window, register by register.
-use Rattle.std.proofs.Common.{◌≡◌, ℕ, zero, suc, ◌+◌, ◌<◌, ◌≤◌, List, [], ◌∷◌, ◌++◌, length, length-append, refl, ◌∙◌, ap, arith, Some, Option, slice_get, inl, inr, subst}
+use Rattle.std.proofs.Common.{Bool, true, false, ◌&&◌, eq-eqb, ◌≡◌, ℕ, zero, suc, ◌+◌, ◌<◌, ◌≤◌, List, [], ◌∷◌, ◌++◌, length, length-append, refl, ◌∙◌, ap, arith, Some, Option, slice_get, inl, inr, subst}
 use Rattle.net_graph.specs.declared.cell.Cell.{Cell}
 use Rattle.net_graph.specs.declared.cell.Node.{Node}
 use Rattle.net_graph.specs.declared.cell.Stream.{Stream}
@@ -13,6 +13,9 @@ use Rattle.net_graph.proofs.CellLemmas.{cell_at-is}
 use Rattle.net_graph.proofs.GrowLemmas.{Grows-trans}
 use Rattle.pipeline_balance.specs.Numbered.{IsRegister, IsCounted, IsTouched, LeavesFree, name_of}
 use Rattle.pipeline_balance.specs.Gate.{IsGate, AddsGate, Holds, IsTaken, IsWindow}
+use Rattle.net_graph.specs.Count.{one_if, is_window, is_table, has_kind, windows_in, tables_in}
+use Rattle.pipeline_balance.specs.Costs.{SameAdders, SameNamed}
+use Rattle.pipeline_balance.proofs.CostLemmas.{SameAdders-trans, nothing_more, other_kind}
 use Rattle.pipeline_balance.proofs.NumberedLemmas.{width-later, IsRegister-later, LeavesFree-trans, IsCounted-leaves, IsCounted-more, least_is}
 use Rattle.pipeline_balance.proofs.TakenLemmas.{IsGate-later, Holds-later, Holds-more}
 
@@ -32,6 +35,9 @@ pub record WindowSoFar (old net : NetView) (from : Stream) (gate : Option Node) 
   pub registers : (number : ℕ) → IsCounted old.cells old.group Window number → (age : ℕ) (node : Node) → slice_get nodes age ≡ Some node → IsRegister net.cells node.place old.group (name_of old.group Window (number + age)) (cell_at old.cells from.node.place).width
   pub counted : (number : ℕ) → IsCounted old.cells old.group Window number → IsCounted net.cells old.group Window (number + length nodes)
   pub names : LeavesFree old.cells net.cells (IsTouched old.group Window)
+  pub adders : SameAdders old.cells net.cells
+  pub windows : windows_in old.group net.cells ≡ windows_in old.group old.cells + length nodes
+  pub tables : tables_in old.group net.cells ≡ tables_in old.group old.cells
 
 -- a name of a window is none of control
 window_apart : (group number : ℕ) → (name_of group Window number).kind ≡ Control → ⊥
@@ -50,6 +56,9 @@ WindowSoFar-start {old} {net} {from} {gate} inside g = record {
       let same : number ≡ number + 0 = omega arith in
       subst (λ (n : ℕ). IsCounted net.cells old.group Window n) same (IsCounted-leaves old.group Window number g.grows.extends g.names (window_apart old.group) c);
   names = record { free = λ name other f. g.names.free name (λ control. other (inr control)) f };
+  adders = g.adders;
+  windows = g.named.windows old.group ∙ omega arith;
+  tables = g.named.tables old.group;
 }
 
 -- what the next register holds
@@ -99,7 +108,21 @@ WindowSoFar-step {old} {net} {new} {from} {gate} {last} {to} {nodes} {group} {nu
           subst (λ (n : ℕ). IsCounted new.cells old.group Window n) more (IsCounted-more old.group Window (first + length nodes) e leaves used (p.counted first c));
       names = LeavesFree-trans old.cells net.cells new.cells (IsTouched old.group Window) (λ name. name ≡ name_of group Window number) (IsTouched old.group Window) (λ name h. h)
           (λ name h. inl (ap (λ (n : Name). n.group) h ∙ same, ap (λ (n : Name). n.kind) h)) p.names t.names;
+      adders = SameAdders-trans p.adders t.adders;
+      windows =
+          let one : one_if (has_kind is_window old.group (Some (name_of group Window number))) ≡ 1 = ap (λ (b : Bool). one_if (b && true)) (eq-eqb group old.group same) in
+          let now = t.windows old.group in
+          let before = p.windows in
+          omega (arith, one, now, before, count);
+      tables = t.tables old.group ∙ nothing_more (tables_in old.group net.cells) (one_if (has_kind is_table old.group (Some (name_of group Window number)))) (other_kind is_table old.group (name_of group Window number) refl) ∙ p.tables;
     }
 
 pub WindowSoFar-window : {old net : NetView} {from : Stream} {gate : Option Node} {last : Node} {nodes : List Node} → WindowSoFar old net from gate last nodes → IsWindow old net from nodes
-WindowSoFar-window p = record { grows = p.grows; holds = p.holds; registers = p.registers; counted = p.counted; names = p.names }
+WindowSoFar-window p = record { grows = p.grows; holds = p.holds; registers = p.registers; counted = p.counted; names = p.names; adders = p.adders; windows = p.windows; tables = p.tables }
+
+-- a register that is no window and no table
+pub SameNamed-taken : {old new : NetView} {from : Stream} {name : Name} {to : Node} → is_window name.kind ≡ false → is_table name.kind ≡ false → IsTaken old new from name to → SameNamed old.cells new.cells
+SameNamed-taken {old} {new} {from} {name} {to} no_window no_table t = record {
+  windows = λ group. t.windows group ∙ nothing_more (windows_in group old.cells) (one_if (has_kind is_window group (Some name))) (other_kind is_window group name no_window);
+  tables = λ group. t.tables group ∙ nothing_more (tables_in group old.cells) (one_if (has_kind is_table group (Some name))) (other_kind is_table group name no_table);
+}

@@ -11,7 +11,9 @@ use Rattle.net_graph.specs.Cells.{NetView, cell_at}
 use Rattle.net_graph.specs.Cut.{Cut, IsCut}
 use Rattle.net_graph.specs.Run.{Values, IsRun, HasShape}
 use Rattle.net_graph.specs.Grow.{Grows}
+use Rattle.net_graph.specs.Count.{one_if, is_window, is_table, has_kind, windows_in, tables_in}
 use Rattle.pipeline_balance.specs.Numbered.{IsRegister, IsCounted, IsTouched, LeavesFree, name_of}
+use Rattle.pipeline_balance.specs.Costs.{SameAdders, SameNamed}
 
 -- the tick is one of first, first + period, first + 2 * period, ..
 abbrev pub IsTickOf : ℕ → ℕ → ℕ → Type 0
@@ -31,6 +33,8 @@ pub record IsCounter (old new : NetView) (ticks : ℕ → Type 0) (bit : Node) :
   pub nameless : shape.cell.name ≡ None
   pub bit_of : IsBitOf new.cells ticks bit
   pub names : LeavesFree old.cells new.cells (λ name. name.kind ≡ Control)
+  pub adders : SameAdders old.cells new.cells
+  pub named : SameNamed old.cells new.cells
 
 -- a gate of a stream: a bit that is set exactly at the stream's ticks, or none where every tick is one of the stream
 abbrev pub IsGate : List Cell → ℕ → ℕ → Option Node → Type 0
@@ -42,6 +46,8 @@ pub record AddsGate (old new : NetView) (period offset : ℕ) (gate : Option Nod
   pub grows : Grows old new
   pub is_gate : IsGate new.cells period offset gate
   pub names : LeavesFree old.cells new.cells (λ name. name.kind ≡ Control)
+  pub adders : SameAdders old.cells new.cells
+  pub named : SameNamed old.cells new.cells
 
 -- so many of the ticks first, first + period, .. lie before this one
 abbrev pub HasTaken : ℕ → ℕ → ℕ → ℕ → Type 0
@@ -74,12 +80,18 @@ pub record IsTaken (old new : NetView) (from : Stream) (name : Name) (to : Node)
   pub register : IsRegister new.cells to.place old.group name (cell_at old.cells from.node.place).width
   pub holds : Holds new.cells from 0 to
   pub names : LeavesFree old.cells new.cells (λ other. other ≡ name)
+  pub adders : SameAdders old.cells new.cells
+  pub windows : (group : ℕ) → windows_in group new.cells ≡ windows_in group old.cells + one_if (has_kind is_window group (Some name))
+  pub tables : (group : ℕ) → tables_in group new.cells ≡ tables_in group old.cells + one_if (has_kind is_table group (Some name))
 
 -- the new net has registers with the last values of the stream, newest first; where the net's window registers have the numbers
--- below one, these are numbered on from it
+-- below one, these are numbered on from it; they are so many window registers more of the group
 pub record IsWindow (old new : NetView) (from : Stream) (nodes : List Node) : Type 0 where
   pub grows : Grows old new
   pub holds : (age : ℕ) (node : Node) → slice_get nodes age ≡ Some node → Holds new.cells from age node
   pub registers : (number : ℕ) → IsCounted old.cells old.group Window number → (age : ℕ) (node : Node) → slice_get nodes age ≡ Some node → IsRegister new.cells node.place old.group (name_of old.group Window (number + age)) (cell_at old.cells from.node.place).width
   pub counted : (number : ℕ) → IsCounted old.cells old.group Window number → IsCounted new.cells old.group Window (number + length nodes)
   pub names : LeavesFree old.cells new.cells (IsTouched old.group Window)
+  pub adders : SameAdders old.cells new.cells
+  pub windows : windows_in old.group new.cells ≡ windows_in old.group old.cells + length nodes
+  pub tables : tables_in old.group new.cells ≡ tables_in old.group old.cells

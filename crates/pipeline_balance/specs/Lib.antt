@@ -1,5 +1,6 @@
 pub mod Numbered
 pub mod Bits
+pub mod Costs
 pub mod Gate
 pub mod Leaves
 pub mod Phase

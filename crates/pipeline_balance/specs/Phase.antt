@@ -10,6 +10,7 @@ use Rattle.net_graph.specs.Run.{Values, IsRun, HasShape}
 use Rattle.net_graph.specs.Control.{IsOfControl}
 use Rattle.net_graph.specs.Grow.{Grows}
 use Rattle.pipeline_balance.specs.Numbered.{IsCounted, IsTouched, LeavesFree}
+use Rattle.pipeline_balance.specs.Costs.{SameAdders, SameNamed}
 use Rattle.pipeline_balance.specs.Gate.{HasTaken, IsBitOf}
 use Rattle.pipeline_balance.specs.Leaves.{delayed}
 
@@ -23,6 +24,8 @@ pub record IsPhases (old new : NetView) (period first count : ℕ) (bits : List 
   pub shapes : (phase : ℕ) (bit : Node) → slice_get bits phase ≡ Some bit → HasShape new.cells bit.place true 1
   pub each : (phase : ℕ) (bit : Node) → slice_get bits phase ≡ Some bit → IsBitOf new.cells (IsTickOfPhase period first count phase) bit
   pub names : LeavesFree old.cells new.cells (λ name. name.kind ≡ Control)
+  pub adders : SameAdders old.cells new.cells
+  pub named : SameNamed old.cells new.cells
 
 -- in every run, however it is cut, the control node has at every tick the number of values taken before, modulo `count`, in this width
 pub record IsIndexOf (cells : List Cell) (period first count width : ℕ) (index : Node) : Type 0 where
@@ -35,6 +38,8 @@ pub record IsIndex (old new : NetView) (period first count width : ℕ) (index :
   pub grows : Grows old new
   pub index_of : IsIndexOf new.cells period first count width index
   pub names : LeavesFree old.cells new.cells (λ name. name.kind ≡ Control)
+  pub adders : SameAdders old.cells new.cells
+  pub named : SameNamed old.cells new.cells
 
 -- at this tick bit `phase` is set and all others are clear
 pub record IsOnlySet (values : Values) (bits : List Node) (t phase : ℕ) : Type 0 where
@@ -54,6 +59,8 @@ pub record IsSelection (old new : NetView) (bits nodes : List Node) (count width
   pub narrow : IsNarrow new.cells width to
   pub selects : (cut : Cut) → IsCut cut → (inputs : ℕ → ℤ) (values : Values) → IsRun cut new.cells inputs values → (t phase : ℕ) → phase < count → IsOnlySet values bits t phase → (node : Node) → slice_get nodes phase ≡ Some node → values t to.place ≡ values t node.place
   pub names : LeavesFree old.cells new.cells (λ name. ⊥)
+  pub adders : SameAdders old.cells new.cells
+  pub named : SameNamed old.cells new.cells
 
 -- The node `to` of the new net, as wide as `from`, has in every run, however it is cut, the value of `from` so many ticks before, by
 -- as many registers with the next free numbers.
@@ -64,3 +71,5 @@ pub record IsDelay (old new : NetView) (from : Node) (ticks : ℕ) (to : Node) :
   pub delays : (cut : Cut) → IsCut cut → (inputs : ℕ → ℤ) (values : Values) → IsRun cut new.cells inputs values → (t : ℕ) → values t to.place ≡ delayed ticks t (λ s. values s from.place)
   pub counted : (count : ℕ) → IsCounted old.cells old.group Register count → IsCounted new.cells old.group Register (count + ticks)
   pub names : LeavesFree old.cells new.cells (IsTouched old.group Register)
+  pub adders : SameAdders old.cells new.cells
+  pub named : SameNamed old.cells new.cells

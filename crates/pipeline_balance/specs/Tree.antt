@@ -11,6 +11,7 @@ use Rattle.net_graph.specs.WellFormed.{IsLeastFree}
 use Rattle.net_graph.specs.Grow.{Grows}
 use Rattle.net_graph.specs.Count.{one_if, adders_in}
 use Rattle.pipeline_balance.specs.Numbered.{IsRegister, IsCounted, IsTouched, LeavesFree, name_of}
+use Rattle.pipeline_balance.specs.Costs.{SameNamed}
 use Rattle.pipeline_balance.specs.Leaves.{delayed, signed_sum, all_negative, held_sum, segment}
 
 -- a node has this value at each tick of each run, cut or uncut
@@ -22,6 +23,7 @@ pub record Computes (cells : List Cell) (node : Node) (value : Cut → Values �
 pub record AddsNode (old new : NetView) (adders : ℕ) (node : Node) (value : Cut → Values → ℕ → ℤ) : Type 0 where
   pub grows : Grows old new
   pub counts : adders_in old.group new.cells ≡ adders_in old.group old.cells + adders
+  pub same_named : SameNamed old.cells new.cells
   pub names : LeavesFree old.cells new.cells (λ name. ⊥)
   pub computes : Computes new.cells node value
 
@@ -39,6 +41,7 @@ pub record IsSum (cells : List Cell) (leaves : List Leaf) (width : ℕ) (term : 
 pub record TakesNode (old new : NetView) (from : Node) (width : ℕ) (to : Node) : Type 0 where
   pub grows : Grows old new
   pub counts : adders_in old.group new.cells ≡ adders_in old.group old.cells
+  pub same_named : SameNamed old.cells new.cells
   pub number : ℕ
   pub least : IsLeastFree old.cells old.group Register number
   pub register : IsRegister new.cells to.place old.group (name_of old.group Register number) width
@@ -50,6 +53,7 @@ pub record TakesNode (old new : NetView) (from : Node) (width : ℕ) (to : Node)
 pub record AddsSum (old new : NetView) (leaves : List Leaf) (width adders : ℕ) (term : Leaf) : Type 0 where
   pub grows : Grows old new
   pub counts : adders_in old.group new.cells ≡ adders_in old.group old.cells + adders
+  pub same_named : SameNamed old.cells new.cells
   pub sum : IsSum new.cells leaves width term
   pub named : (count : ℕ) → IsCounted old.cells old.group Register count → IsRegister new.cells term.node.place old.group (name_of old.group Register count) width
   pub counted : (count : ℕ) → IsCounted old.cells old.group Register count → IsCounted new.cells old.group Register (suc count)
@@ -65,6 +69,7 @@ pub record IsLevel (old new : NetView) (leaves : List Leaf) (widths : List ℕ) 
   pub grows : Grows old new
   pub many : length terms ≡ (length leaves + 1) / 2
   pub counts : adders_in old.group new.cells + length terms ≡ adders_in old.group old.cells + length leaves
+  pub same_named : SameNamed old.cells new.cells
   pub each : (j : ℕ) (term : Leaf) → slice_get terms j ≡ Some term → IsSum new.cells (segment 1 j leaves) (get_or widths (first + j) 0) term
   pub named : (count : ℕ) → IsCounted old.cells old.group Register count → (j : ℕ) (term : Leaf) → slice_get terms j ≡ Some term → IsRegister new.cells term.node.place old.group (name_of old.group Register (count + j)) (get_or widths (first + j) 0)
   pub counted : (count : ℕ) → IsCounted old.cells old.group Register count → IsCounted new.cells old.group Register (count + length terms)
@@ -106,6 +111,7 @@ pub record IsTree (old new : NetView) (leaves : List Leaf) (widths : List ℕ) (
   pub sums : (cut : Cut) → IsCut cut → (inputs : ℕ → ℤ) (values : Values) → IsRun cut new.cells inputs values → SumsFit cut values leaves widths levels
       → (t : ℕ) → values t root.place ≡ delayed levels t (λ s. signed_sum values s leaves)
   pub adders : adders_in old.group new.cells ≡ adders_in old.group old.cells + tree_adders leaves
+  pub same_named : SameNamed old.cells new.cells
   pub named : (count : ℕ) → IsCounted old.cells old.group Register count → (k : ℕ) (node : Node) → slice_get registers k ≡ Some node → IsRegister new.cells node.place old.group (name_of old.group Register (count + k)) (get_or widths k 0)
   pub counted : (count : ℕ) → IsCounted old.cells old.group Register count → IsCounted new.cells old.group Register (count + length registers)
   pub names : LeavesFree old.cells new.cells (IsTouched old.group Register)
