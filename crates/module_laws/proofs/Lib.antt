@@ -1,0 +1,5 @@
+pub mod DrivenOnce
+pub mod Levels
+pub mod Passing
+pub mod Places
+pub mod TextOrder
