@@ -1,5 +1,6 @@
 // Why a plan file or a tap file is refused.
-use mr_values::Text;
+use mr_values::{Memory, Text};
+use std::alloc::AllocFailed;
 use thiserror::Error;
 
 /// What is wrong with a field.
@@ -41,4 +42,26 @@ pub enum TapFault {
     Bad { row: u64, why: TapWhy },
     #[error("memory ran out")]
     Memory,
+}
+
+impl From<Memory> for PlanReadFault {
+    ghost use Rattle.std.specs.Prelude.{◌≡◌};
+    ghost use Rattle.plan_reader.specs.declared.fault.PlanReadFault.TheVariants as fault;
+
+    ghost from_gives = { λ _ found. found ≡ fault.Memory };
+
+    fn from(_: Memory) -> PlanReadFault {
+        PlanReadFault::Memory
+    }
+}
+
+impl<T: Drop> From<AllocFailed<T>> for PlanReadFault {
+    ghost use Rattle.std.specs.Prelude.{◌≡◌};
+    ghost use Rattle.plan_reader.specs.declared.fault.PlanReadFault.TheVariants as fault;
+
+    ghost from_gives = { λ _ found. found ≡ fault.Memory };
+
+    fn from(_: AllocFailed<T>) -> PlanReadFault {
+        PlanReadFault::Memory
+    }
 }

@@ -1,6 +1,14 @@
 //! Plan files and tap files.
 #![tactic(auto)]
 
+mod document;
 mod fault;
+mod fields;
+mod keys;
+mod plan_texts;
+mod reading;
+mod shape;
 
 pub use fault::{FieldWhy, PlanReadFault, TapFault, TapWhy};
+pub use plan_texts::{PlanText, TapFile, TapFiles};
+pub use reading::read_plan;
