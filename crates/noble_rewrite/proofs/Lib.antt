@@ -1,0 +1,4 @@
+mod Thin
+mod Exchanges
+mod RuleSteps
+mod TurnSteps
