@@ -1,4 +1,4 @@
-pub mod SameRuns
+pub mod ReadModules
 pub mod OneTapPlaces
 pub mod OneTapWritable
 pub mod OneTapShows

@@ -25,7 +25,7 @@ use Rattle.net_module.specs.Written.{IsWritable, HasNode, written_module, input_
 use Rattle.net_module.specs.Steps.{HasNoReset, tick_data, ticks_in, samples_of, width_in, RunsAfterReset, ShowsAs, pair_of, chosen_list, outputs_from as shown_from}
 use Rattle.chain_build.specs.OneTap.{IsOneTap, BeginsWith, IsOneTapNet, EachFits as EachInputFits}
 use Rattle.filter_text.specs.Headline.{outputs_from, outputs_within, samples_in, IsRunFrom, ShowsChain}
-use Rattle.filter_text.proofs.SameRuns.{same_shapes, same_circuits, same_ports}
+use Rattle.module_laws.proofs.Places.{same_shapes, same_circuits, same_ports}
 use Rattle.filter_text.proofs.OneTapPlaces.{output_is, valid_is, input_width}
 
 -- ---- samples

@@ -4,7 +4,9 @@ use Rattle.mr_values.specs.Width.{signed}
 use Rattle.mr_values.specs.Timing.{ceil_div}
 use Rattle.mr_values.specs.Value.{val}
 use Rattle.mr_values.specs.declared.plan.Element.{Element}
+use Rattle.verilog_tree.specs.Checks.{Passes}
 use Rattle.verilog_tree.specs.Meaning.{Values}
+use Rattle.module_laws.specs.Running.{HasRuns}
 use Rattle.verilog_tree.specs.Names.{shapes_of}
 use Rattle.verilog_tree.specs.Shown.{Cycle, Event, RunsOver, EachFits, ports_of, events_of}
 use Rattle.verilog_tree.specs.Tree.{Design}
@@ -47,9 +49,11 @@ pub record ShowsChain (elements : List Element) (width latency period : ℕ) (d 
   pub shows : (content : Values) (before after : List Cycle) (reset : Cycle) (settled : List Values) → IsRunFrom d width content before after reset settled
       → map pair_of (events_after d before after settled) ≡ outputs_within latency period (λ n. val elements (samples_in width after) (pos n)) (ticks_in after)
 
--- the bytes read as one module, and it shows the chain
+-- the bytes read as one module, it passes every check, from any content it runs over any cycles, and it shows the chain
 pub record IsTextOf (elements : List Element) (width latency period : ℕ) (bytes : List ℕ) : Type 0 where
   pub design : Design
   pub reads : Reads bytes design
   pub only : (other : Design) → Reads bytes other → other ≡ design
+  pub passes : Passes design
+  pub runs : HasRuns design
   pub shows : ShowsChain elements width latency period design

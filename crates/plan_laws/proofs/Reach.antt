@@ -13,7 +13,7 @@ use Rattle.mr_values.specs.declared.plan.Element.TheVariants.{Up, Down, Filter, 
 use Rattle.mr_values.specs.declared.plan.Form.{Form}
 use Rattle.mr_values.specs.Width.{floor_quotient, floor_remainder}
 use Rattle.mr_values.specs.Sequence.{Sequence, samples, weighted_sum, up, down, filter, filter_times, ones, cic_down, cic_up}
-use Rattle.mr_values.specs.Value.{size, chain, round, IsWithinLimits}
+use Rattle.mr_values.specs.Value.{size, chain, round, round_value, IsWithinLimits}
 use Rattle.mr_values.specs.Timing.{Group, Fir, DownCic, UpCic, Rounding, groups, join_up, join_filter, ceil_div, up_factor, down_factor, period_after, after_all, input, Stream, after}
 use Rattle.mr_values.proofs.Division.{floor_split, floor_unique}
 use Rattle.mr_values.proofs.Ring.{+ℤ-*ℤ}
@@ -23,7 +23,7 @@ use Rattle.plan_check.specs.Accepted.{rates_test}
 use Rattle.plan_check.specs.Costs.{Spread, memory_of, spread_after}
 use Rattle.plan_check.proofs.Options.{none_of}
 use Rattle.plan_check.proofs.GroupSplit.{size_low, tail_limits}
-use Rattle.plan_laws.specs.Laws.{spread_after_all, HaveNoRound, ReachHolds}
+use Rattle.plan_laws.specs.Laws.{spread_after_all, ReachHolds}
 
 -- ---- groups as transforms
 
@@ -179,11 +179,12 @@ inner (DownCic factor stages delay) = filter_times stages (ones (factor * delay)
 inner (UpCic factor stages delay) = filter_times stages (ones (factor * delay))
 inner (Rounding shift mode) = λ x. x
 
-abbrev NoRounding : Group → Type 0
-NoRounding (Fir u f d) = Unit {0}
-NoRounding (DownCic factor stages delay) = Unit {0}
-NoRounding (UpCic factor stages delay) = Unit {0}
-NoRounding (Rounding shift mode) = ⊥
+-- what a group makes of one value at the end
+abbrev last_step : Group → ℤ → ℤ
+last_step (Fir u f d) z = z
+last_step (DownCic factor stages delay) z = z
+last_step (UpCic factor stages delay) z = z
+last_step (Rounding shift mode) z = round_value mode shift z
 
 one_place : (n : ℤ) → n *ℤ pos 1 ≡ n
 one_place n = omega (arith, ints)
@@ -196,19 +197,19 @@ optional-down : (d : Option ℕ) (x : Sequence) (n : ℤ) → optional down d x 
 optional-down None x n = ap x (sym (one_place n))
 optional-down (Some factor) x n = refl
 
-group-parts : (g : Group) (x : Sequence) (n : ℤ) → NoRounding g → apply_group g x n ≡ inner g (up (up_factor g) x) (n *ℤ pos (down_factor g))
-group-parts (Fir u f d) x n h =
+group-parts : (g : Group) (x : Sequence) (n : ℤ) → apply_group g x n ≡ last_step g (inner g (up (up_factor g) x) (n *ℤ pos (down_factor g)))
+group-parts (Fir u f d) x n =
     optional-down d (optional filter_by f (optional up u x)) n ∙ ap (λ (y : Sequence). optional filter_by f y (n *ℤ pos (unwrap_or d 1))) (optional-up u x)
-group-parts (DownCic factor stages delay) x n h = ap (λ (y : Sequence). filter_times stages (ones (factor * delay)) y (n *ℤ pos factor)) (sym (up_one x))
-group-parts (UpCic factor stages delay) x n h = ap (filter_times stages (ones (factor * delay)) (up factor x)) (sym (one_place n))
-group-parts (Rounding shift mode) x n h = absurd h
+group-parts (DownCic factor stages delay) x n = ap (λ (y : Sequence). filter_times stages (ones (factor * delay)) y (n *ℤ pos factor)) (sym (up_one x))
+group-parts (UpCic factor stages delay) x n = ap (filter_times stages (ones (factor * delay)) (up factor x)) (sym (one_place n))
+group-parts (Rounding shift mode) x n = ap (λ (y : Sequence). round_value mode shift (y n)) (sym (up_one x)) ∙ ap (λ (m : ℤ). round_value mode shift (up 1 x m)) (sym (one_place n))
 
-looks-inner : (g : Group) → NoRounding g → LooksBack (memory_of g) (inner g)
-looks-inner (Fir u None d) h = looks-itself
-looks-inner (Fir u (Some f) d) h = looks-filter f.0
-looks-inner (DownCic factor stages delay) h = looks-moving stages (factor * delay)
-looks-inner (UpCic factor stages delay) h = looks-moving stages (factor * delay)
-looks-inner (Rounding shift mode) h = absurd h
+looks-inner : (g : Group) → LooksBack (memory_of g) (inner g)
+looks-inner (Fir u None d) = looks-itself
+looks-inner (Fir u (Some f) d) = looks-filter f.0
+looks-inner (DownCic factor stages delay) = looks-moving stages (factor * delay)
+looks-inner (UpCic factor stages delay) = looks-moving stages (factor * delay)
+looks-inner (Rounding shift mode) = looks-itself
 
 -- ---- all groups
 
@@ -216,28 +217,27 @@ ceil_covers : (n d : ℕ) → 0 < d → n ≤ ceil_div n d * d
 ceil_covers n d some = omega (arith, div-add-mod' (n + (d - 1)) d, mod_below (n + (d - 1)) d some)
 
 -- what the groups of an accepted plan are
-record IsPlain (period : ℕ) (g : Group) : Type 0 where
-  linear : NoRounding g
+record IsWholeRate (period : ℕ) (g : Group) : Type 0 where
   some : 0 < up_factor g
   whole : period_after g period * up_factor g ≡ period * down_factor g
 
-abbrev ArePlain : ℕ → List Group → Type 0
-ArePlain period [] = Unit {0}
-ArePlain period (g ∷ gs) = IsPlain period g × ArePlain (period_after g period) gs
+abbrev AreWholeRates : ℕ → List Group → Type 0
+AreWholeRates period [] = Unit {0}
+AreWholeRates period (g ∷ gs) = IsWholeRate period g × AreWholeRates (period_after g period) gs
 
 positive : (a b : ℕ) → 0 < a → 0 < b → 0 < a * b
 positive a b h k = omega (arith, mul-le-mul_left a k)
 
-group-reaches : (ticks period : ℕ) (g : Group) (s : Spread) (f : Sequence → Sequence) → 0 < ticks → IsPlain period g → Reaches ticks period s.reach f
+group-reaches : (ticks period : ℕ) (g : Group) (s : Spread) (f : Sequence → Sequence) → 0 < ticks → IsWholeRate period g → Reaches ticks period s.reach f
     → Reaches ticks (period_after g period) (spread_after ticks g period s).reach (λ x. apply_group g (f x))
 group-reaches ticks period g s f some plain h x y n near =
     let more = ceil_div (memory_of g * period) (up_factor g * ticks) in
     let covers = ceil_covers (memory_of g * period) (up_factor g * ticks) (positive (up_factor g) ticks plain.some some) in
-    group-parts g (f x) n plain.linear
-    ∙ step ticks period (period_after g period) (up_factor g) (down_factor g) s.reach more (memory_of g) f (inner g) plain.some plain.whole covers (looks-inner g plain.linear) h x y n near
-    ∙ sym (group-parts g (f y) n plain.linear)
+    group-parts g (f x) n
+    ∙ ap (last_step g) (step ticks period (period_after g period) (up_factor g) (down_factor g) s.reach more (memory_of g) f (inner g) plain.some plain.whole covers (looks-inner g) h x y n near)
+    ∙ sym (group-parts g (f y) n)
 
-groups-reach : (ticks period : ℕ) (gs : List Group) (s : Spread) (st : Stream) (f : Sequence → Sequence) → 0 < ticks → st.period ≡ period → ArePlain period gs → Reaches ticks period s.reach f
+groups-reach : (ticks period : ℕ) (gs : List Group) (s : Spread) (st : Stream) (f : Sequence → Sequence) → 0 < ticks → st.period ≡ period → AreWholeRates period gs → Reaches ticks period s.reach f
     → Reaches ticks (after_all gs st).period (spread_after_all ticks gs period s).reach (λ x. apply_groups gs (f x))
 groups-reach ticks period [] s st f some is plain h = subst (λ (p : ℕ). Reaches ticks p s.reach f) (sym is) h
 groups-reach ticks period (g ∷ gs) s st f some is plain h =
@@ -258,47 +258,47 @@ rate_whole first period g some e =
     let rest : period * down_factor g % up_factor g ≡ 0 = grind arith in
     omega (arith, rest, div-add-mod' (period * down_factor g) (up_factor g))
 
-abbrev AreLinear : List Group → Type 0
-AreLinear [] = Unit {0}
-AreLinear (g ∷ gs) = NoRounding g × (0 < up_factor g) × AreLinear gs
+abbrev AreSome : List Group → Type 0
+AreSome [] = Unit {0}
+AreSome (g ∷ gs) = (0 < up_factor g) × AreSome gs
 
-are_plain : (first period : ℕ) (gs : List Group) → AreLinear gs → first_failing rate_test period_after first period gs ≡ None → ArePlain period gs
-are_plain first period [] h e = tt
-are_plain first period (g ∷ gs) h e =
+are_whole : (first period : ℕ) (gs : List Group) → AreSome gs → first_failing rate_test period_after first period gs ≡ None → AreWholeRates period gs
+are_whole first period [] h e = tt
+are_whole first period (g ∷ gs) h e =
     let both = none_of _ _ e in
-    (record { linear = h.0; some = h.1; whole = rate_whole first period g h.1 both.0 }, are_plain (first + size_of g) (period_after g period) gs h.2 both.1)
+    (record { some = h.0; whole = rate_whole first period g h.0 both.0 }, are_whole (first + size_of g) (period_after g period) gs h.1 both.1)
 
-linear-join_up : (factor : ℕ) (gs : List Group) → 0 < factor → AreLinear gs → AreLinear (join_up factor gs)
-linear-join_up factor [] some h = (tt, some, tt)
-linear-join_up factor (Fir None f d ∷ gs) some h = (tt, some, h.2)
-linear-join_up factor (Fir (Some u) f d ∷ gs) some h = (tt, some, h)
-linear-join_up factor (DownCic other stages delay ∷ gs) some h = (tt, some, h)
-linear-join_up factor (UpCic other stages delay ∷ gs) some h = (tt, some, h)
-linear-join_up factor (Rounding shift mode ∷ gs) some h = (tt, some, h)
+some-join_up : (factor : ℕ) (gs : List Group) → 0 < factor → AreSome gs → AreSome (join_up factor gs)
+some-join_up factor [] some h = (some, tt)
+some-join_up factor (Fir None f d ∷ gs) some h = (some, h.1)
+some-join_up factor (Fir (Some u) f d ∷ gs) some h = (some, h)
+some-join_up factor (DownCic other stages delay ∷ gs) some h = (some, h)
+some-join_up factor (UpCic other stages delay ∷ gs) some h = (some, h)
+some-join_up factor (Rounding shift mode ∷ gs) some h = (some, h)
 
-linear-join_filter : (taps : List ℤ) (form : Form) (gs : List Group) → AreLinear gs → AreLinear (join_filter taps form gs)
-linear-join_filter taps form [] h = (tt, omega arith, tt)
-linear-join_filter taps form (Fir None None d ∷ gs) h = (tt, omega arith, h.2)
-linear-join_filter taps form (Fir None (Some f) d ∷ gs) h = (tt, omega arith, h)
-linear-join_filter taps form (Fir (Some u) None d ∷ gs) h = (tt, omega arith, h)
-linear-join_filter taps form (Fir (Some u) (Some f) d ∷ gs) h = (tt, omega arith, h)
-linear-join_filter taps form (DownCic other stages delay ∷ gs) h = (tt, omega arith, h)
-linear-join_filter taps form (UpCic other stages delay ∷ gs) h = (tt, omega arith, h)
-linear-join_filter taps form (Rounding shift mode ∷ gs) h = (tt, omega arith, h)
+some-join_filter : (taps : List ℤ) (form : Form) (gs : List Group) → AreSome gs → AreSome (join_filter taps form gs)
+some-join_filter taps form [] h = (omega arith, tt)
+some-join_filter taps form (Fir None None d ∷ gs) h = (omega arith, h.1)
+some-join_filter taps form (Fir None (Some f) d ∷ gs) h = (omega arith, h)
+some-join_filter taps form (Fir (Some u) None d ∷ gs) h = (omega arith, h)
+some-join_filter taps form (Fir (Some u) (Some f) d ∷ gs) h = (omega arith, h)
+some-join_filter taps form (DownCic other stages delay ∷ gs) h = (omega arith, h)
+some-join_filter taps form (UpCic other stages delay ∷ gs) h = (omega arith, h)
+some-join_filter taps form (Rounding shift mode ∷ gs) h = (omega arith, h)
 
-are_linear : (es : List Element) → All IsWithinLimits es → HaveNoRound es → AreLinear (groups es)
-are_linear [] h none = tt
-are_linear (Up factor ∷ es) h none = linear-join_up (size factor) (groups es) (size_low 4096 factor (h 0 (Up factor) (omega arith))) (are_linear es (tail_limits (Up factor) es h) none)
-are_linear (Down factor ∷ es) h none = (tt, omega arith, are_linear es (tail_limits (Down factor) es h) none)
-are_linear (Filter taps form ∷ es) h none = linear-join_filter taps form (groups es) (are_linear es (tail_limits (Filter taps form) es h) none)
-are_linear (CicDown factor stages delay ∷ es) h none = (tt, omega arith, are_linear es (tail_limits (CicDown factor stages delay) es h) none)
-are_linear (CicUp factor stages delay ∷ es) h none =
-    (tt, size_low 4096 factor (h 0 (CicUp factor stages delay) (omega arith)).0, are_linear es (tail_limits (CicUp factor stages delay) es h) none)
-are_linear (Round shift mode ∷ es) h none = absurd none
+are_some : (es : List Element) → All IsWithinLimits es → AreSome (groups es)
+are_some [] h = tt
+are_some (Up factor ∷ es) h = some-join_up (size factor) (groups es) (size_low 4096 factor (h 0 (Up factor) (omega arith))) (are_some es (tail_limits (Up factor) es h))
+are_some (Down factor ∷ es) h = (omega arith, are_some es (tail_limits (Down factor) es h))
+are_some (Filter taps form ∷ es) h = some-join_filter taps form (groups es) (are_some es (tail_limits (Filter taps form) es h))
+are_some (CicDown factor stages delay ∷ es) h = (omega arith, are_some es (tail_limits (CicDown factor stages delay) es h))
+are_some (CicUp factor stages delay ∷ es) h =
+    (size_low 4096 factor (h 0 (CicUp factor stages delay) (omega arith)).0, are_some es (tail_limits (CicUp factor stages delay) es h))
+are_some (Round shift mode ∷ es) h = (omega arith, are_some es (tail_limits (Round shift mode) es h))
 
-pub reach_holds : (ticks : ℕ) (elements : List Element) → 1 ≤ ticks → All IsWithinLimits elements → HaveNoRound elements → rates_test ticks (groups elements) ≡ None → ReachHolds ticks elements
-reach_holds ticks elements some limits none rates xs ys n near =
+pub reach_holds : (ticks : ℕ) (elements : List Element) → 1 ≤ ticks → All IsWithinLimits elements → rates_test ticks (groups elements) ≡ None → ReachHolds ticks elements
+reach_holds ticks elements some limits rates xs ys n near =
     ap (λ (s : Sequence). s n) (chain-groups elements (samples xs))
     ∙ groups-reach ticks ticks (groups elements) (record { classes = 1; reach = 1 }) (input 1 ticks) (λ x. x) some refl
-    (are_plain 1 ticks (groups elements) (are_linear elements limits none) rates) (itself-reaches ticks some) (samples xs) (samples ys) n near
+    (are_whole 1 ticks (groups elements) (are_some elements limits) rates) (itself-reaches ticks some) (samples xs) (samples ys) n near
     ∙ sym (ap (λ (s : Sequence). s n) (chain-groups elements (samples ys)))

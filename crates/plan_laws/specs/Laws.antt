@@ -51,15 +51,6 @@ spread_after_all ticks (g ∷ gs) period s = spread_after_all ticks gs (period_a
 abbrev pub reach_of : ℕ → List Element → ℕ
 reach_of ticks elements = (spread_after_all ticks (groups elements) ticks (record { classes = 1; reach = 1 })).reach
 
-abbrev pub HaveNoRound : List Element → Type 0
-HaveNoRound [] = Unit {0}
-HaveNoRound (Up factor ∷ es) = HaveNoRound es
-HaveNoRound (Down factor ∷ es) = HaveNoRound es
-HaveNoRound (Filter taps form ∷ es) = HaveNoRound es
-HaveNoRound (CicDown factor stages delay ∷ es) = HaveNoRound es
-HaveNoRound (CicUp factor stages delay ∷ es) = HaveNoRound es
-HaveNoRound (Round shift mode ∷ es) = ⊥
-
 -- The value at index n depends on no other sample than those that stand, in ticks, at most at n * period, and there
 -- less than `reach` samples back. There are at most `reach` of them.
 abbrev pub ReachHolds : ℕ → List Element → Type 0

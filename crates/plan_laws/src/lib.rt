@@ -4,7 +4,7 @@
 ghost use Rattle.std.specs.Prelude.{◌≡◌, ◌≤◌, ℕ, List, All, None};
 ghost use Rattle.mr_values.specs.declared.plan.Element.{Element};
 ghost use Rattle.mr_values.specs.Value.{IsWithinLimits};
-ghost use Rattle.plan_laws.specs.Laws.{SpanHolds, PeakHolds, BoundHolds, ReachHolds, HaveNoRound};
+ghost use Rattle.plan_laws.specs.Laws.{SpanHolds, PeakHolds, BoundHolds, ReachHolds};
 ghost use Rattle.mr_values.specs.Timing.{groups};
 ghost use Rattle.plan_check.specs.Accepted.{rates_test};
 
@@ -24,7 +24,7 @@ pub fn law_of_bound()
     ensures { (elements : List Element) → All IsWithinLimits elements → BoundHolds elements }
 {}
 
-/// A value of a chain without roundings depends on at most as many samples as its reach.
+/// A value of a chain depends on at most as many samples as its reach.
 pub fn law_of_reach()
-    ensures { (ticks : ℕ) (elements : List Element) → 1 ≤ ticks → All IsWithinLimits elements → HaveNoRound elements → rates_test ticks (groups elements) ≡ None → ReachHolds ticks elements }
+    ensures { (ticks : ℕ) (elements : List Element) → 1 ≤ ticks → All IsWithinLimits elements → rates_test ticks (groups elements) ≡ None → ReachHolds ticks elements }
 {}

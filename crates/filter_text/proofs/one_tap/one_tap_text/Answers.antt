@@ -10,6 +10,7 @@ use Rattle.net_module.specs.Written.{written_module}
 use Rattle.net_module.proofs.Outputs.{shows_as}
 use Rattle.filter_text.proofs.OneTapWritable.{one_tap_writable}
 use Rattle.filter_text.proofs.OneTapShows.{one_tap_shows}
+use Rattle.filter_text.proofs.ReadModules.{passing, running}
 use Rattle.net_text.proofs.Writable.{has_text, in_order}
 use Rattle.filter_text.proofs.one_tap.one_tap_text.Goals as goal
 
@@ -36,6 +37,8 @@ returns c =
       design = read.0;
       reads = read.1;
       only = λ other its. one_design text.items other read.0 its read.1;
+      passes = passing cells net.netlist can read.0 (subst (λ (d : Design). IsSameButPlaces read.0 d) c.in_ok-module.ensures read.2);
+      runs = running cells net.netlist can read.0 (subst (λ (d : Design). IsSameButPlaces read.0 d) c.in_ok-module.ensures read.2);
       shows = one_tap_shows c.args.plan.wide net (shows_as cells net.netlist can) taps form one read.0 (subst (λ (d : Design). IsSameButPlaces read.0 d) c.in_ok-module.ensures read.2);
     })
     c.text_of.result same
