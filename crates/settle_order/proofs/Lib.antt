@@ -1,0 +1,3 @@
+pub mod Opened
+pub mod Placing
+pub mod Turns

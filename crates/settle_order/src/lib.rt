@@ -1,0 +1,6 @@
+//! An order in which the assignments of a module can be evaluated.
+#![tactic(auto)]
+
+mod order;
+
+pub use order::{Placed, evaluation_order, place_all};
