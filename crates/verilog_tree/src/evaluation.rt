@@ -1,6 +1,6 @@
 // The plain program for the value of an expression.
 ghost use Rattle.std.specs.Prelude.{◌≡◌, ℕ, Bool, ◌^◌, ◌<◌, ◌≤◌, IsTrue, slice_index};
-ghost use Rattle.verilog_tree.specs.Meaning.{Shapes, FitNames, IsFitting, all_fit, binary_length, fits, is_comparison, joined_bits, length_of, operand_length, operand_signed, signed_of, total_length, value};
+ghost use Rattle.verilog_tree.specs.Meaning.{Shapes, FitNames, IsFitting, all_fit, assigned, binary_length, fits, is_comparison, joined_bits, length_of, operand_length, operand_signed, signed_of, total_length, value};
 ghost use Rattle.verilog_tree.specs.View.{tree_view, trees_view};
 
 use crate::bits::{all_ones, append, extend, low_bits, operate, shift};
@@ -125,6 +125,27 @@ pub fn alone<D: Declarations>(declarations: &D, expr: &Expr, values: &[u128]) ->
         signed: sign_in(declarations, expr),
     };
     evaluate(declarations, expr, context, values)
+}
+
+/// The bits of a right side: evaluated at the greater of its own length and its target's, and cut to the target's.
+pub fn assigned<D: Declarations>(
+    declarations: &D,
+    target: usize,
+    expr: &Expr,
+    values: &[u128],
+) -> u128
+    requires names { FitNames (D.shapes declarations.now) (λ n. slice_index values.now n) }
+    requires width { IsFitting ((D.shapes declarations.now).width target) }
+    requires fits { IsTrue (fits (D.shapes declarations.now) (tree_view expr.now)) }
+    ensures value { result ≡ assigned (D.shapes declarations.now) (λ n. slice_index values.now n) target (tree_view expr.now) }
+    ensures small { result < 2 ^ (D.shapes declarations.now).width target }
+{
+    let width = declarations.width_of(target);
+    let context = Context {
+        length: length_in(declarations, expr).max(width),
+        signed: sign_in(declarations, expr),
+    };
+    low_bits(evaluate(declarations, expr, context, values), width)
 }
 
 // The bits of the members, the first the highest.

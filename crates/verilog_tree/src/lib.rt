@@ -8,7 +8,7 @@ mod laws;
 mod shape;
 mod tree;
 
-pub use evaluation::{Context, alone, evaluate};
+pub use evaluation::{Context, alone, assigned, evaluate};
 pub use fault::ModuleFault;
 pub use laws::law_of_one_settling;
 pub use shape::{Declarations, is_signed, length};
