@@ -1,0 +1,5 @@
+pub mod View
+pub mod Begun
+pub mod StatementView
+pub mod StatementBegun
+pub mod TextView
