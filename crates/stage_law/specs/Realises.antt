@@ -21,9 +21,14 @@ use Rattle.stage_law.specs.Kinds.{carries_uncut}
 use Rattle.stage_law.specs.Streams.{Streams}
 use Rattle.stage_law.specs.declared.stage.Emitted.{Emitted}
 
+-- the name of this group, kind and number is free; names of control are of no stage
+abbrev pub IsFreeIn : List Cell → ℕ → NameKind → ℕ → Type 0
+IsFreeIn cells group Control number = Unit {0}
+IsFreeIn cells group kind number = IsFree cells (name_of group kind number)
+
 -- no name of the net is of the group
 pub record IsUnused (cells : List Cell) (group : ℕ) : Type 0 where
-  pub free : (kind : NameKind) (number : ℕ) → IsFree cells (name_of group kind number)
+  pub free : (kind : NameKind) (number : ℕ) → IsFreeIn cells group kind number
 
 -- a name of the group, or one of control
 abbrev pub IsOwnName : ℕ → Name → Type 0

@@ -1,0 +1,105 @@
+-- A rounding realises its element.
+use Rattle.std.proofs.Common.{◌≡◌, ℕ, suc, ◌+◌, ◌*◌, ◌%◌, ◌^◌, ◌<◌, ◌≤◌, List, [], ◌∷◌, length, sym, ◌∙◌, ap, arith, inl, inr, subst, ℤ, pos, negsuc, neg_ℤ, ◌-ℤ◌, ◌≤ℤ◌}
+use Rattle.std.specs.Prelude.{unsigned_abs}
+use Rattle.std.proofs.lemmas.Int.{ints}
+use Rattle.mr_values.specs.declared.plan.Mode.{Mode}
+use Rattle.mr_values.specs.Sequence.{Sequence, filter}
+use Rattle.mr_values.specs.Value.{round_value}
+use Rattle.net_graph.specs.declared.cell.Node.{Node}
+use Rattle.net_graph.specs.declared.cell.Stream.{Stream}
+use Rattle.net_graph.specs.declared.name.Name.{Name}
+use Rattle.net_graph.specs.declared.name.NameKind.TheVariants.{Register}
+use Rattle.net_graph.specs.Cells.{NetView}
+use Rattle.net_graph.specs.Cut.{cut_all}
+use Rattle.net_graph.proofs.CutLemmas.{IsCut-all}
+use Rattle.net_graph.proofs.GrowLemmas.{Grows-trans}
+use Rattle.pipeline_balance.specs.Gate.{HasTaken}
+use Rattle.pipeline_balance.specs.Numbered.{IsTouched}
+use Rattle.pipeline_balance.proofs.NumberedLemmas.{LeavesFree-trans}
+use Rattle.stage_law.specs.declared.ranges.Range.{Range}
+use Rattle.stage_law.specs.declared.ranges.Class.{Class}
+use Rattle.stage_law.specs.declared.stage.Emitted.{Emitted}
+use Rattle.stage_law.specs.Streams.{Streams, HasRoom}
+use Rattle.stage_law.specs.Range.{IsRange}
+use Rattle.stage_law.specs.Realises.{Realises, CarriesThrough, IsOwnName}
+use Rattle.rounding_stage.specs.Held.{IsHeld}
+use Rattle.rounding_stage.specs.Map.{IsMap}
+use Rattle.rounding_stage.specs.Rounding.{rounding_facts, rounding_adders}
+
+-- every index
+abbrev pub every : Class
+every = record { modulus = 1; residue = 0 }
+
+abbrev pub one : List ℤ
+one = pos 1 ∷ []
+
+value_is : (v : Sequence) (k : ℕ) → filter one v (pos k) ≡ v (pos k)
+value_is v k = let at : pos k -ℤ pos 0 ≡ pos k = omega (arith, ints) in rw at (omega (arith, ints))
+
+in_every : (k : ℕ) → k % 1 ≡ 0
+in_every k = omega arith
+
+-- the values of the streams lie in the range of the form 1
+pub value_low : (streams : Streams) (range : Range) → IsRange streams one every range → (v : Sequence) → streams v → (k : ℕ) → range.lo ≤ℤ v (pos k)
+value_low streams range r v is k = subst (λ (z : ℤ). range.lo ≤ℤ z) (value_is v k) (r.low v is k (in_every k))
+
+pub value_high : (streams : Streams) (range : Range) → IsRange streams one every range → (v : Sequence) → streams v → (k : ℕ) → v (pos k) ≤ℤ range.hi
+value_high streams range r v is k = subst (λ (z : ℤ). z ≤ℤ range.hi) (value_is v k) (r.high v is k (in_every k))
+
+small_low : (z : ℤ) (most : ℕ) → unsigned_abs z ≤ most → most ≤ 2 ^ 125 → neg_ℤ (pos (2 ^ 125)) ≤ℤ z
+small_low (pos n) most h b = omega (arith, ints)
+small_low (negsuc n) most h b = omega (arith, ints)
+
+small_high : (z : ℤ) (most : ℕ) → unsigned_abs z ≤ most → most ≤ 2 ^ 125 → z ≤ℤ pos (2 ^ 125)
+small_high (pos n) most h b = omega (arith, ints)
+small_high (negsuc n) most h b = omega (arith, ints)
+
+pub range_low : (streams : Streams) (gain : ℕ) (range : Range) → HasRoom streams gain → IsRange streams one every range → neg_ℤ (pos (2 ^ 125)) ≤ℤ range.lo
+range_low streams gain range h r =
+    let w = r.low_reached in
+    let is : w.stream (pos w.index) ≡ range.lo = sym (value_is w.stream w.index) ∙ w.is in
+    subst (λ (z : ℤ). neg_ℤ (pos (2 ^ 125)) ≤ℤ z) is (small_low (w.stream (pos w.index)) h.most (h.within.each w.stream w.is_one (pos w.index)) h.before)
+
+pub range_high : (streams : Streams) (gain : ℕ) (range : Range) → HasRoom streams gain → IsRange streams one every range → range.hi ≤ℤ pos (2 ^ 125)
+range_high streams gain range h r =
+    let w = r.high_reached in
+    let is : w.stream (pos w.index) ≡ range.hi = sym (value_is w.stream w.index) ∙ w.is in
+    subst (λ (z : ℤ). z ≤ℤ pos (2 ^ 125)) is (small_high (w.stream (pos w.index)) h.most (h.within.each w.stream w.is_one (pos w.index)) h.before)
+
+pub range_ordered : (streams : Streams) (form : List ℤ) (class : Class) (range : Range) → IsRange streams form class range → range.lo ≤ℤ range.hi
+range_ordered streams form class range r =
+    let w = r.high_reached in
+    subst (λ (z : ℤ). range.lo ≤ℤ z) w.is (r.low w.stream w.is_one w.index w.in_class)
+
+touched_own : (group : ℕ) (name : Name) → IsTouched group Register name → IsOwnName group name
+touched_own group name (inl h) = inl h.0
+touched_own group name (inr h) = inr h
+
+pub Realises-rounding : {old mid new : NetView} {from : Stream} {sum register : Node} {range : Range} {shift : ℕ} {mode : Mode} {streams : Streams} (emitted : Emitted)
+    → emitted.stream ≡ record { node = register; period = from.period; offset = from.offset + 1 } → 1 ≤ old.group → 1 ≤ from.period
+    → IsMap old mid from.node range (round_value mode shift) (rounding_adders mode) sum → IsHeld mid new (record { node = sum; period = from.period; offset = from.offset }) register → IsRange streams one every range
+    → Realises (rounding_facts shift mode) streams old new from emitted
+Realises-rounding {old} {mid} {new} {from} {sum} {register} {range} {shift} {mode} {streams} emitted is data_group positive m d r = record {
+  grows = Grows-trans m.grows d.grows;
+  within = subst (λ (to : Stream). to.node.place < length new.cells) (sym is) d.holds.within;
+  period = ap (λ (to : Stream). to.period * 1) is;
+  offset = ap (λ (to : Stream). to.offset) is;
+  carries = subst (λ (to : Stream). CarriesThrough cut_all streams (rounding_facts shift mode).elements new.cells from to) (sym is)
+      (λ x values v in_streams run carried k.
+      let t : ℕ = from.offset + k * from.period in
+      let tick : from.offset + 1 + k * from.period ≡ suc t = omega arith in
+      let shown_is : values t from.node.place ≡ v (pos k) = carried k in
+      let taken : HasTaken from.period from.offset (suc k) (suc t) = (omega arith, omega arith) in
+      subst (λ (u : ℕ). values u register.place ≡ round_value mode shift (v (pos k))) (sym tick)
+      (d.holds.holds cut_all IsCut-all x values run (suc t) (suc k) taken
+      ∙ m.maps x values (d.grows.extends.runs cut_all IsCut-all x values run) t
+      (subst (λ (z : ℤ). range.lo ≤ℤ z) (sym shown_is) (value_low streams range r v in_streams k))
+      (subst (λ (z : ℤ). z ≤ℤ range.hi) (sym shown_is) (value_high streams range r v in_streams k))
+      ∙ ap (round_value mode shift) shown_is));
+  whole = λ linear. absurd (cc);
+  adders = d.same_adders.each old.group data_group ∙ m.counts;
+  windows = d.same_named.windows old.group ∙ m.same_named.windows old.group ∙ omega arith;
+  tables = d.same_named.tables old.group ∙ m.same_named.tables old.group ∙ omega arith;
+  names = LeavesFree-trans old.cells mid.cells new.cells (λ name. ⊥) (IsTouched mid.group Register) (IsOwnName old.group) (λ name h. absurd h)
+      (λ name h. touched_own old.group name (subst (λ (g : ℕ). IsTouched g Register name) m.grows.group h)) m.names d.names;
+}

@@ -1,0 +1,7 @@
+//! Rounding as a stage of a chain.
+#![tactic(auto)]
+
+mod register;
+mod rounding;
+
+pub use rounding::Rounding;
