@@ -1,5 +1,5 @@
 -- The writes of `compile`.
-use Rattle.std.proofs.Common.{◌≡◌, ◌⊎◌, ℕ, zero, suc, ◌<◌, ◌≤◌, ◌^◌, ℤ, pos, List, [], ◌∷◌, length, slice_index_or, Some, Result, Ok, Err, inl, inr, ap, ◌∙◌, drop, sym, subst, refl, arith}
+use Rattle.std.proofs.Common.{◌≡◌, ◌⊎◌, ℕ, zero, suc, ◌<◌, ◌≤◌, ◌^◌, ℤ, pos, List, [], ◌∷◌, length, slice_index_or, Some, Result, Ok, Err, inl, inr, ap, ◌∙◌, sym, subst, refl, arith}
 use Rattle.std.specs.Prelude.{◌≢◌}
 use Rattle.std.proofs.lemmas.Bool.{cases_lt}
 use Rattle.std.specs.FinMap.{get, insert}
@@ -13,13 +13,17 @@ use Rattle.filter_core.specs.FirstPlan.{IsFirstPlan}
 use Rattle.filter_core.specs.SingleTap.{IsSingleTap}
 use Rattle.filter_core.specs.PlanMeanings.{plan_view}
 use Rattle.filter_core.specs.Report.{report_text}
-use Rattle.mr_values.specs.Files.{Files, bytes_of}
+use Rattle.mr_values.specs.Files.{Files}
 use Rattle.mr_values.specs.Host.{HostState, left_of}
 use Rattle.mr_values.specs.declared.host.HostCall.TheVariants.{OpenInput, Next, OpenOutput, Put}
 use Rattle.filter_core.specs.declared.fault.Fault.{Fault}
-use Rattle.filter_core.specs.declared.fault.Fault.TheVariants.{HostFault, Memory}
+use Rattle.filter_core.specs.declared.fault.Fault.TheVariants.{HostFault, Memory, PlanRead, NotBuilt}
+use Rattle.filter_core.specs.declared.fault.Fault.TheVariants as fault
 use Rattle.filter_core.specs.WholeFiles.{WriteAnswer, IsEmptied, HoldsFront, HoldsPart}
-use Rattle.filter_core.specs.Compile.{AreOutputs, IsReadToEnd, CompileEnds}
+use Rattle.mr_values.specs.declared.plan.Plan.{Plan}
+use Rattle.mr_values.specs.declared.plan.Element.{Element}
+use Rattle.filter_core.specs.PlanFile.{AcceptAnswer, SaysAccepted}
+use Rattle.filter_core.specs.Compile.{IsBuiltFile, AreOutputs, IsReadToEnd, CompileEnds}
 
 -- past its end a list has 0
 past_end : (xs : List ℤ) (k : ℕ) → length xs ≤ k → slice_index_or xs k (pos 0) ≡ pos 0
@@ -39,16 +43,28 @@ one_tap taps count place shift many single = record {
     other k apart (inl low) = single.others k low apart
     other k apart (inr high) = past_end taps k high
 
--- a text and a report of a plan that is there
-pub outputs_of : (plan : List ℕ) (files : Files) (bytes text lines : List ℕ) (found : OneTap) → get files plan ≡ Some bytes → length bytes ≤ 2 ^ 20 → IsFirstPlan bytes (plan_view found)
+-- a plan that is there, accepted and built
+pub built_of : (plan : List ℕ) (files : Files) (bytes : List ℕ) (accepted : Plan) (found : OneTap) → get files plan ≡ Some bytes → length bytes ≤ 2 ^ 20 → SaysAccepted bytes accepted → IsFirstPlan accepted (plan_view found)
+    → IsBuiltFile plan files (plan_view found)
+built_of plan files bytes accepted found there short says first = record {
+  plan = accepted;
+  accepted = record { bytes = bytes; has = record { there = there; short = short }; accepted = says };
+  built = first;
+}
+
+-- a text and a report of a plan that is built
+pub outputs_of : (plan : List ℕ) (files : Files) (text lines : List ℕ) (found : OneTap) → IsBuiltFile plan files (plan_view found)
     → ((taps : List ℤ) (form : Form) → IsOneTap taps found.count found.place found.shift → IsTextOf (Filter taps form ∷ []) found.width 2 1 text)
     → lines ≡ report_text (plan_view found) → AreOutputs plan files text lines
-outputs_of plan files bytes text lines found there short first shows is = record {
-  meaning = plan_view found;
-  accepted = record { bytes = bytes; there = there; short = short; first = first };
-  shows = shows first.filter.taps Parallel (one_tap first.filter.taps found.count found.place found.shift first.taps first.single);
-  lines = is;
-}
+outputs_of plan files text lines found built shows is =
+    let first = built.built in
+    let text_is = shows first.taps Parallel (one_tap first.taps found.count found.place found.shift first.count first.single) in
+    record {
+      first = plan_view found;
+      built = built;
+      shows = subst (λ (elements : List Element). IsTextOf elements found.width 2 1 text) (sym first.elements) text_is;
+      lines = is;
+    }
 
 -- PLAN was read, and then nothing was read again
 pub read_to_end : (plan : List ℕ) (old read now : HostState) → read.files ≡ old.files → read.input ≡ plan → left_of read ≡ [] → now.input ≡ read.input → now.place ≡ read.place → IsReadToEnd plan old now
@@ -78,3 +94,11 @@ last_write plan text report text_bytes report_bytes (Err (HostFault OpenOutput))
 last_write plan text report text_bytes report_bytes (Err (HostFault Put)) old middle new outputs ended written answer = (text_bytes, report_bytes, outputs, inr (subst (λ before. HoldsFront report report_bytes before new.files) written answer))
 last_write plan text report text_bytes report_bytes (Err Memory) old middle new outputs ended written answer = inr (text_bytes, report_bytes, outputs, inr (subst (λ before. HoldsPart report report_bytes before new.files) written answer))
 last_write plan text report text_bytes report_bytes (Err _) old middle new outputs ended written answer = absurd answer
+
+-- the plan file was refused
+pub refused : (plan text report bytes : List ℕ) (fault : Fault) (old new : HostState) → get old.files plan ≡ Some bytes → length bytes ≤ 2 ^ 20 → AcceptAnswer bytes (Err fault) → new.files ≡ old.files → CompileEnds plan text report (Err fault) old new
+refused plan text report bytes (PlanRead why) old new there short answer same = (record { bytes = bytes; has = record { there = there; short = short }; unread = answer }, same)
+refused plan text report bytes (fault.Plan why) old new there short answer same = (record { bytes = bytes; has = record { there = there; short = short }; unaccepted = answer }, same)
+refused plan text report bytes NotBuilt old new there short answer same = (inr (record { bytes = bytes; has = record { there = there; short = short }; files_named = answer }), same)
+refused plan text report bytes Memory old new there short answer same = inl same
+refused plan text report bytes _ old new there short answer same = absurd answer

@@ -1,57 +1,49 @@
 -- What `compile` writes, and what its answers mean.
-use Rattle.std.specs.Prelude.{◌≡◌, ◌⊎◌, ℕ, ◌≤◌, ◌<◌, ◌^◌, List, [], ◌∷◌, length, drop, Some, Result, Ok, Err}
-use Rattle.std.specs.FinMap.{get, insert}
+use Rattle.std.specs.Prelude.{◌≡◌, ◌⊎◌, ℕ, List, [], drop, Result, Ok, Err}
+use Rattle.std.specs.FinMap.{insert}
 use Rattle.mr_values.specs.Files.{Files, bytes_of}
 use Rattle.mr_values.specs.Host.{HostState}
 use Rattle.mr_values.specs.declared.host.HostCall.{HostCall}
 use Rattle.mr_values.specs.declared.host.HostCall.TheVariants.{OpenInput, Next, OpenOutput, Put}
 use Rattle.filter_core.specs.declared.fault.Fault.{Fault}
-use Rattle.filter_core.specs.declared.fault.Fault.TheVariants.{HostFault, Memory, FileTooLong, NotBuilt}
+use Rattle.filter_core.specs.declared.fault.Fault.TheVariants.{HostFault, Memory, FileTooLong, PlanRead, NotBuilt}
+use Rattle.filter_core.specs.declared.fault.Fault.TheVariants as fault
 use Rattle.filter_core.specs.declared.fault.FileKind.TheVariants.{Plan}
-use Rattle.mr_values.specs.declared.plan.Element.{Element}
-use Rattle.mr_values.specs.declared.plan.Element.TheVariants.{Filter}
-use Rattle.mr_values.specs.declared.plan.Form.TheVariants.{Parallel}
+use Rattle.mr_values.specs.declared.plan.Plan.{Plan as ChainPlan}
 use Rattle.filter_text.specs.Headline.{IsTextOf}
-use Rattle.filter_core.specs.FirstPlan.{FirstPlan, OneFilter, IsFirstPlan}
+use Rattle.filter_core.specs.FirstPlan.{FirstPlan, IsFirstPlan}
+use Rattle.filter_core.specs.PlanFile.{IsTooLong, IsAcceptedFile, IsUnreadFile, IsUnacceptedFile, HasTapFiles}
 use Rattle.filter_core.specs.Report.{report_text}
 use Rattle.filter_core.specs.WholeFiles.{IsEmptied, HoldsFront, HoldsPart}
 
--- PLAN holds these bytes, and says this plan
-pub record IsAccepted (plan : List ℕ) (files : Files) (meaning : FirstPlan) : Type 0 where
-  pub bytes : List ℕ
-  pub there : get files plan ≡ Some bytes
-  pub short : length bytes ≤ 2 ^ 20
-  pub first : IsFirstPlan bytes meaning
+-- PLAN is accepted, and built as this plan
+pub record IsBuiltFile (name : List ℕ) (files : Files) (first : FirstPlan) : Type 0 where
+  pub plan : ChainPlan
+  pub accepted : IsAcceptedFile name files plan
+  pub built : IsFirstPlan plan first
 
--- PLAN is there and isn't too long, and is no first plan
-pub record IsNotBuilt (plan : List ℕ) (files : Files) : Type 0 where
-  pub bytes : List ℕ
-  pub there : get files plan ≡ Some bytes
-  pub short : length bytes ≤ 2 ^ 20
-  pub other : (meaning : FirstPlan) → ¬ IsFirstPlan bytes meaning
+-- PLAN is accepted, and no plan that is built
+pub record IsUnbuiltFile (name : List ℕ) (files : Files) : Type 0 where
+  pub plan : ChainPlan
+  pub accepted : IsAcceptedFile name files plan
+  pub other : (first : FirstPlan) → ¬ IsFirstPlan plan first
 
--- PLAN is there and has more than 1 MiB
-pub record IsTooLong (plan : List ℕ) (files : Files) : Type 0 where
-  pub bytes : List ℕ
-  pub there : get files plan ≡ Some bytes
-  pub long : 2 ^ 20 < length bytes
+-- PLAN is no plan that is built yet: it is another plan, or it has tap files
+abbrev pub IsNotBuilt : List ℕ → Files → Type 0
+IsNotBuilt name files = IsUnbuiltFile name files ⊎ HasTapFiles name files
 
 -- PLAN was read to its end
 pub record IsReadToEnd (plan : List ℕ) (old new : HostState) : Type 0 where
   pub input : new.input ≡ plan
   pub end : drop new.place (bytes_of old.files plan) ≡ []
 
--- the chain of a plan of one filter
-abbrev pub elements_of : OneFilter → List Element
-elements_of filter = Filter filter.taps Parallel ∷ []
-
 -- What TEXT and REPORT are to hold: a text that reads as a module which shows the plan's chain, at latency 2 and period 1,
 -- and the lines of the report.
 pub record AreOutputs (plan : List ℕ) (files : Files) (text report : List ℕ) : Type 0 where
-  pub meaning : FirstPlan
-  pub accepted : IsAccepted plan files meaning
-  pub shows : IsTextOf (elements_of accepted.first.filter) meaning.width 2 1 text
-  pub lines : report ≡ report_text meaning
+  pub first : FirstPlan
+  pub built : IsBuiltFile plan files first
+  pub shows : IsTextOf built.plan.elements first.width 2 1 text
+  pub lines : report ≡ report_text first
 
 -- TEXT and REPORT hold these bytes, and no other file has changed
 abbrev pub HoldsBoth : List ℕ → List ℕ → List ℕ → List ℕ → Files → Files → Type 0
@@ -92,6 +84,8 @@ IsCutOff plan text report old new = (new ≡ old) ⊎ IsCutShort HoldsPart plan 
 abbrev pub CompileEnds : List ℕ → List ℕ → List ℕ → Result (Unit {0}) Fault → HostState → HostState → Type 0
 CompileEnds plan text report (Ok done) old new = IsCompiled plan text report old new
 CompileEnds plan text report (Err (FileTooLong Plan)) old new = IsTooLong plan old.files × (new.files ≡ old.files)
+CompileEnds plan text report (Err (PlanRead why)) old new = IsUnreadFile plan old.files why × (new.files ≡ old.files)
+CompileEnds plan text report (Err (fault.Plan why)) old new = IsUnacceptedFile plan old.files why × (new.files ≡ old.files)
 CompileEnds plan text report (Err NotBuilt) old new = IsNotBuilt plan old.files × (new.files ≡ old.files)
 CompileEnds plan text report (Err (HostFault call)) old new = IsStoppedAt call plan text report old.files new.files
 CompileEnds plan text report (Err Memory) old new = IsCutOff plan text report old.files new.files

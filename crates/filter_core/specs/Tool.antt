@@ -6,7 +6,7 @@ use Rattle.filter_core.specs.declared.fault.Fault.{Fault}
 use Rattle.filter_core.specs.declared.fault.Fault.TheVariants.{Usage, NotBuilt}
 use Rattle.filter_core.specs.CommandWords.{CommandWords, compile_words}
 use Rattle.filter_core.specs.FirstPlan.{FirstPlan}
-use Rattle.filter_core.specs.Compile.{CompileEnds, IsAccepted}
+use Rattle.filter_core.specs.Compile.{CompileEnds, IsBuiltFile}
 
 -- the files that a command reads
 abbrev pub files_read : CommandWords → List (List ℕ)
@@ -25,7 +25,7 @@ CommandEnds _ result old new = (result ≡ Err NotBuilt) × (new ≡ old)
 
 -- the files that a command reads are there and accepted
 abbrev pub IsReady : CommandWords → Files → Type 0
-IsReady (compile_words plan text report) files = (meaning : FirstPlan) × IsAccepted plan files meaning
+IsReady (compile_words plan text report) files = (first : FirstPlan) × IsBuiltFile plan files first
 IsReady _ files = ⊥
 
 -- the same of words that may be no command

@@ -3,8 +3,9 @@ ghost use Rattle.std.specs.Prelude.{◌≡◌, ◌≢◌, Err, ◌∷◌, [], Is
 ghost use Rattle.filter_core.specs.Ends.{EndsWith, call_of};
 ghost use Rattle.filter_core.specs.Compile.{CompileEnds};
 
+use crate::accept::accept_plan;
 use crate::files::{read_file, write_file};
-use crate::plan::read_first_plan;
+use crate::first_plan::first_plan;
 use crate::report::report_text;
 use crate::{Fault, FileKind};
 use filter_text::one_tap_text;
@@ -15,7 +16,8 @@ use std::alloc::Global;
 pub const PLAN_LIMIT: usize = 1 << 20;
 
 /// Reads PLAN whole, and writes the module to TEXT and then the report to REPORT. Fails with `FileTooLong` where PLAN
-/// has more than 1 MiB, with `NotBuilt` where it isn't a first plan, with `HostFault` where a host call fails, and for want of memory.
+/// has more than 1 MiB, with the first test that the plan doesn't pass, with `NotBuilt` where it is accepted but not
+/// built yet, with `HostFault` where a host call fails, and for want of memory.
 pub fn compile<H: Host>(
     alloc: Global,
     plan: &str,
@@ -28,7 +30,8 @@ pub fn compile<H: Host>(
     ensures told { IsTrue (H.state host.old).tells → CompileEnds plan.now text.now report.now result (H.state host.old) (H.state host.new) }
 {
     let bytes = read_file(alloc, host, plan, FileKind::Plan, PLAN_LIMIT)?;
-    let Some(found) = read_first_plan(alloc, &bytes)? else {
+    let accepted = accept_plan(alloc, &bytes)?;
+    let Some(found) = first_plan(&accepted) else {
         return Err(Fault::NotBuilt);
     };
     let module = one_tap_text(alloc, found)?;

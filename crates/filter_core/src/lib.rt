@@ -1,13 +1,13 @@
 //! The commands of the filter compiler, over a host.
 #![tactic(auto)]
 
+mod accept;
 mod compile_command;
 mod fault;
 mod fault_lines;
 mod fault_words;
 mod files;
-mod one_filter;
-mod plan;
+mod first_plan;
 mod report;
 mod single_tap;
 mod status;

@@ -1,5 +1,5 @@
 //! The program over a host in memory.
-use crate::{Fault, FileKind, HostCall, filter_tool};
+use crate::{Fault, HostCall, filter_tool};
 use mr_values::MemoryHost;
 use std::alloc::Global;
 use std::test::Fail;
@@ -65,21 +65,6 @@ fn stops_at_a_failed_put(rt: HostRuntime) -> Result<(), Fail> {
 }
 
 #[test]
-fn names_the_missing_file(rt: HostRuntime) -> Result<(), Fail> {
-    let alloc = rt.alloc();
-    let mut host = MemoryHost::new(alloc);
-    let outcome = filter_tool(alloc, &words(alloc, "compile plan text report")?, &mut host);
-    assert_eq!(rt; outcome.status, 3);
-    let fault = outcome.fault.ok_or("no fault")?;
-    assert_eq!(rt;
-        format!(in alloc; "{fault}")?.as_str(),
-        "HostFault call=OpenInput"
-    );
-    assert_eq!(rt; host.file("text"), None);
-    Ok(())
-}
-
-#[test]
 fn refuses_words_that_are_no_command(rt: HostRuntime) -> Result<(), Fail> {
     let alloc = rt.alloc();
     for line in [
@@ -100,40 +85,29 @@ fn refuses_words_that_are_no_command(rt: HostRuntime) -> Result<(), Fail> {
 }
 
 #[test]
-fn leaves_what_is_not_built(rt: HostRuntime) -> Result<(), Fail> {
+fn answers_the_first_fault(rt: HostRuntime) -> Result<(), Fail> {
     let alloc = rt.alloc();
-    for taps in ["[-8]", "[0, 3]", "[]", "[4, 4]", "[4611686018427387905]"] {
-        let plan = format!(in alloc;
-            "version = 1\nwidth = 4\n[[element]]\nkind = \"filter\"\ntaps = {taps}\n"
-        )?;
+    for (plan, line) in [
+        ("version = 1", "Field element=0 field=width why=Missing"),
+        ("version = 3", "Version found=3"),
+        ("width = ", "NotToml"),
+        (
+            "version = 1\nwidth = 4\n[[element]]\nkind = \"fir\"",
+            "Field element=1 field=kind why=BadWord",
+        ),
+        (
+            "version = 1\nwidth = 65\n[[element]]\nkind = \"filter\"\ntaps = [4]",
+            "Limit element=0 which=Width value=65",
+        ),
+        (
+            "version = 1\nwidth = 4\n[[element]]\nkind = \"down\"\nfactor = 2",
+            "NotBuilt",
+        ),
+    ] {
         let mut host = host_with(alloc, plan.as_bytes())?;
         let outcome = filter_tool(alloc, &words(alloc, "compile plan text report")?, &mut host);
-        assert_eq!(rt; outcome.status, 70, "{taps}");
-        assert_eq!(rt; host.file("text"), None);
+        let fault = outcome.fault.ok_or("no fault")?;
+        assert_eq!(rt; format!(in alloc; "{fault}")?.as_str(), line);
     }
-    Ok(())
-}
-
-#[test]
-fn refuses_a_long_plan(rt: HostRuntime) -> Result<(), Fail> {
-    let alloc = rt.alloc();
-    let mut long = Vec::new(alloc);
-    long.resize(1_048_577, b' ')?;
-    let mut host = host_with(alloc, &long)?;
-    let outcome = filter_tool(alloc, &words(alloc, "compile plan text report")?, &mut host);
-    assert_eq!(rt; outcome.status, 10);
-    let fault = outcome.fault.ok_or("no fault")?;
-    assert!(rt;
-        matches!(
-            &fault,
-            Fault::FileTooLong {
-                file: FileKind::Plan
-            }
-        )
-    );
-    assert_eq!(rt;
-        format!(in alloc; "{fault}")?.as_str(),
-        "FileTooLong file=Plan"
-    );
     Ok(())
 }

@@ -1,15 +1,6 @@
-use Rattle.std.proofs.Common.{◌≡◌, ◌∙◌, ℕ, List, Err, subst, sym, refl}
-use Rattle.mr_values.specs.Host.{HostState}
-use Rattle.mr_values.specs.Files.{Files}
-use Rattle.std.specs.FinMap.{get}
-use Rattle.std.specs.Prelude.{◌≤◌, ◌^◌, length, Some}
-use Rattle.chain_build.specs.declared.one_tap.OneTap.{OneTap}
-use Rattle.filter_core.specs.FirstPlan.{IsFirstPlan}
-use Rattle.filter_core.specs.PlanMeanings.{plan_view}
-use Rattle.filter_core.specs.Report.{report_text}
-use Rattle.filter_core.specs.Compile.{AreOutputs}
+use Rattle.std.proofs.Common.{◌∙◌, Err, subst, refl}
 use Rattle.filter_core.specs.WholeFiles.{WriteAnswer}
-use Rattle.filter_core.proofs.CompileSteps.{outputs_of, first_write, last_write, read_to_end}
+use Rattle.filter_core.proofs.CompileSteps.{built_of, outputs_of, first_write, last_write, read_to_end}
 use Rattle.filter_core.proofs.compile_command.compile.Goals as goal
 
 pub returns-in-Ok-clause-told : goal.returns-in-Ok-clause-told
@@ -19,8 +10,8 @@ returns-in-Ok-clause-told g c = λ told.
     let middle = g.H.Host.state c.write_file.new.host in
     let new = g.H.Host.state c.write_file-in-Ok.new.host in
     let reading = c.in_ok-bytes.ensures.told told in
-    let says = rw c.in-Some.is at c.in_ok-found.ensures in
-    let first = rw c.deref.ensures.value at says in
+    let says = rw c.deref.ensures.value at c.in_ok-accepted.ensures in
+    let built = built_of c.args.plan.now old.files c.in_ok-bytes.bytes.items c.in_ok-accepted.accepted c.in-Some.found reading.answer.0 reading.answer.1 says c.in-Some.ensures in
     let told' = c.in_ok-bytes.ensures.cause.same_kind ∙ told in
     let told'' = c.in-Ok.ensures.cause.same_kind ∙ told' in
     let written = c.in-Ok.ensures.told told' in
@@ -28,7 +19,7 @@ returns-in-Ok-clause-told g c = λ told.
     let ended = read_to_end c.args.plan.now old read new reading.files reading.input reading.end (last.input ∙ written.input) (last.place ∙ written.place) in
     let text = c.in_ok-module.module.items in
     let lines = c.in_ok-lines.lines.items in
-    let outputs = outputs_of c.args.plan.now old.files c.in_ok-bytes.bytes.items text lines c.in-Some.found reading.answer.0 reading.answer.1 first c.in_ok-module.ensures c.in_ok-lines.ensures in
+    let outputs = outputs_of c.args.plan.now old.files text lines c.in-Some.found built c.in_ok-module.ensures c.in_ok-lines.ensures in
     last_write c.args.plan.now c.args.text.now c.args.report.now text lines c.write_file-in-Ok.result old middle new outputs
     ended
     (written.answer ∙ rw (reading.files, c.deref-2.ensures.value) refl)
@@ -40,12 +31,12 @@ returns-clause-told g c = λ told.
     let read = g.H.Host.state c.read_file.new.host in
     let new = g.H.Host.state c.write_file.new.host in
     let reading = c.in_ok-bytes.ensures.told told in
-    let says = rw c.in-Some.is at c.in_ok-found.ensures in
-    let first = rw c.deref.ensures.value at says in
+    let says = rw c.deref.ensures.value at c.in_ok-accepted.ensures in
+    let built = built_of c.args.plan.now old.files c.in_ok-bytes.bytes.items c.in_ok-accepted.accepted c.in-Some.found reading.answer.0 reading.answer.1 says c.in-Some.ensures in
     let told' = c.in_ok-bytes.ensures.cause.same_kind ∙ told in
     let text = c.in_ok-module.module.items in
     let lines = c.in_ok-lines.lines.items in
-    let outputs = outputs_of c.args.plan.now old.files c.in_ok-bytes.bytes.items text lines c.in-Some.found reading.answer.0 reading.answer.1 first c.in_ok-module.ensures c.in_ok-lines.ensures in
+    let outputs = outputs_of c.args.plan.now old.files text lines c.in-Some.found built c.in_ok-module.ensures c.in_ok-lines.ensures in
     first_write c.args.plan.now c.args.text.now c.args.report.now text lines c.in-Err.fault old read new outputs
     reading.files
     (subst (λ bytes. WriteAnswer c.args.text.now bytes (Err c.in-Err.fault) read.files new.files) c.deref-2.ensures.value (c.in-Err.ensures.told told').answer)
