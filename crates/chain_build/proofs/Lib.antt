@@ -1,2 +1,9 @@
 pub mod Convolution
 pub mod OneTapLemmas
+pub mod Walk
+pub mod Spans
+pub mod Grown
+pub mod GroupFacts
+pub mod SoFar
+pub mod OutputLemmas
+pub mod ChainLemmas

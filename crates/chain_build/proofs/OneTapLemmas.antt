@@ -32,7 +32,8 @@ use Rattle.pipeline_balance.specs.Gate.{IsTickOf, IsCounter, HasTaken, taken_val
 use Rattle.pipeline_balance.proofs.NumberedLemmas.{IsRegister-later, free_adds}
 use Rattle.pipeline_balance.proofs.TakenLemmas.{IsBitOf-later}
 use Rattle.chain_build.proofs.Convolution.{weighted_one, taken_value-below, taken_value-sequence, taken_value-later, taken_value_none, taken_value-each}
-use Rattle.chain_build.specs.OneTap.{IsOneTap, BeginsWith, EachFits, HasInput, IsOneTapNet}
+use Rattle.chain_build.specs.ChainNet.{HasInput}
+use Rattle.chain_build.specs.OneTap.{IsOneTap, BeginsWith, EachFits, IsOneTapNet}
 
 -- every tick of a stream of period 1 takes one value
 every_tick : (t : ℕ) → HasTaken 1 0 t t

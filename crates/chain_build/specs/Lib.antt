@@ -1,1 +1,5 @@
+pub mod Added
+pub mod Built
+pub mod ChainNet
 pub mod OneTap
+pub mod Output

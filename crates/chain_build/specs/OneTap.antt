@@ -8,11 +8,11 @@ use Rattle.net_graph.specs.declared.cell.Cell.{Cell}
 use Rattle.net_graph.specs.declared.cell.Node.{Node}
 use Rattle.net_graph.specs.declared.name.NameKind.TheVariants.{Window, Output, Valid}
 use Rattle.net_graph.specs.Cells.{cell_at}
-use Rattle.net_graph.specs.Name.{is_input}
 use Rattle.net_graph.specs.WellFormed.{IsNetlist}
 use Rattle.net_graph.specs.Control.{IsOfControl, IsControlClosed}
 use Rattle.net_graph.specs.Cut.{Cut, IsCut}
 use Rattle.net_graph.specs.Run.{Values, IsRun}
+use Rattle.chain_build.specs.ChainNet.{HasInput}
 use Rattle.pipeline_balance.specs.Numbered.{IsRegister, name_of}
 
 -- of so many taps the one at this place is 2 ^ shift, and all others are 0
@@ -28,14 +28,6 @@ BeginsWith inputs xs = (k : ℕ) → k < length xs → slice_index_or xs k (pos 
 -- each input has this width
 abbrev pub EachFits : ℕ → (ℕ → ℤ) → Type 0
 EachFits width inputs = (t : ℕ) → FitsWidth width (inputs t)
-
--- the first node is the only input, and has this width
-pub record HasInput (net : List Cell) (width : ℕ) : Type 0 where
-  pub cell : Cell
-  pub there : slice_get net 0 ≡ Some cell
-  pub is_it : is_input cell.item ≡ true
-  pub same_width : cell.width ≡ width
-  pub only : (k : ℕ) (other : Cell) → slice_get net k ≡ Some other → is_input other.item ≡ true → k ≡ 0
 
 -- In every run over inputs of the width, cut or uncut, `out_q` has at tick 2 + n the filter's value n of the samples so far, and
 -- 0 before; the bit `out_valid` is set exactly from tick 2 on; and register `age` of the window has at tick k + age + 1 sample k, and

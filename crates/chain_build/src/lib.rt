@@ -4,8 +4,12 @@
 ghost use Rattle.std.specs.Prelude.{IfOk};
 ghost use Rattle.chain_build.specs.OneTap.{IsOneTapNet};
 
+mod chain;
+mod groups;
 mod one_tap;
+mod output;
 
+pub use chain::{Built, build, can_build};
 use mr_values::Memory;
 use net_graph::{Name, NameKind, Net, Netlist, Node, Stream};
 pub use one_tap::OneTap;
@@ -14,7 +18,7 @@ use std::alloc::Global;
 
 /// A net with its output register, the node that is shown as `out_valid`, and the registers of its window, newest first.
 #[derive(Drop)]
-pub struct Built {
+pub struct BuiltOneTap {
     pub net: Netlist,
     pub out_q: Node,
     pub out_valid: Node,
@@ -22,7 +26,7 @@ pub struct Built {
 }
 
 /// The net of one parallel filter over one sample a tick, of whose taps one is a power of two and all others are 0.
-pub fn build_one_tap(alloc: Global, plan: OneTap) -> Result<Built, Memory>
+pub fn build_one_tap(alloc: Global, plan: OneTap) -> Result<BuiltOneTap, Memory>
     ensures { IfOk result (λ b. IsOneTapNet plan.width plan.count plan.place plan.shift b.net b.out_q b.out_valid b.window.items) }
 {
     let mut net = Net::new(alloc);
@@ -55,7 +59,7 @@ pub fn build_one_tap(alloc: Global, plan: OneTap) -> Result<Built, Memory>
     };
     net.name_node(out_valid, valid_name);
     match net.finish() {
-        Ok(net) => Ok(Built {
+        Ok(net) => Ok(BuiltOneTap {
             net,
             out_q,
             out_valid,

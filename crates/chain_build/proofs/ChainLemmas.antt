@@ -1,0 +1,147 @@
+-- The net of a plan, part by part.
+use Rattle.std.proofs.Common.{◌≡◌, ◌⊎◌, ℕ, zero, suc, ◌+◌, ◌-◌, ◌*◌, ◌<◌, ◌≤◌, ◌^◌, List, [], ◌∷◌, length, refl, sym, ◌∙◌, ap, arith, Option, Some, None, slice_get, inl, inr, subst, ℤ, pos, negsuc, ◌≤ℤ◌, IsSome, true, false, Bool}
+use Rattle.std.specs.List.{list_all}
+use Rattle.std.proofs.lemmas.Int.{ints}
+use Rattle.std.proofs.lemmas.Nat.{pow_pos}
+use Rattle.std.proofs.lemmas.Bool.{cases_lt}
+use Rattle.mr_values.specs.declared.plan.Element.{Element}
+use Rattle.mr_values.specs.declared.plan.Element.TheVariants.{Up, Down, Filter, CicDown, CicUp, Round}
+use Rattle.mr_values.specs.Sequence.{Sequence}
+use Rattle.mr_values.specs.Timing.{groups, input, last_stream, latency}
+use Rattle.mr_values.specs.Value.{chain}
+use Rattle.mr_values.specs.Width.{FitsWidth, IsLeastWidth}
+use Rattle.net_graph.specs.declared.cell.Cell.{Cell}
+use Rattle.net_graph.specs.declared.cell.Node.{Node}
+use Rattle.net_graph.specs.declared.cell.Stream.{Stream}
+use Rattle.net_graph.specs.declared.cell.Item.TheVariants.{Input}
+use Rattle.net_graph.specs.declared.name.Name.{Name}
+use Rattle.net_graph.specs.Cells.{NetView}
+use Rattle.net_graph.specs.Name.{is_control, is_input}
+use Rattle.net_graph.specs.WellFormed.{IsWellFormed, IsBound, IsFree}
+use Rattle.net_graph.specs.Control.{IsControlClosed}
+use Rattle.net_graph.specs.Cut.{cut_all}
+use Rattle.net_graph.specs.Run.{Values, IsRun}
+use Rattle.net_graph.specs.Grow.{Adds}
+use Rattle.net_graph.proofs.CutLemmas.{IsCut-all}
+use Rattle.net_graph.proofs.NetLemmas.{cell_of_added}
+use Rattle.pipeline_balance.specs.Gate.{IsTickOf, IsBitOf, Carries}
+use Rattle.plan_laws.specs.Laws.{IsBetween}
+use Rattle.rounding_stage.proofs.MapLemmas.{fits_between}
+use Rattle.span_ranges.specs.Span.{IsInSpan}
+use Rattle.chain_build.specs.declared.output.Outputs.{Outputs}
+use Rattle.chain_build.specs.Added.{IsGrown, AreNameless, IsChained}
+use Rattle.chain_build.specs.Built.{are_built, is_built, AreBuiltGroups}
+use Rattle.chain_build.specs.ChainNet.{HasInput, HasSamples, ShowsValues, IsChainNet}
+use Rattle.chain_build.specs.Output.{AddsOutputs}
+use Rattle.chain_build.proofs.Grown.{IsGrown-trans}
+
+-- ---- which plans are built
+
+pub built-groups : (es : List Element) → are_built es ≡ true → AreBuiltGroups (groups es)
+built-groups [] h = tt
+built-groups (Up factor ∷ es) h = absurd (cc)
+built-groups (Down factor ∷ es) h = absurd (cc)
+built-groups (Filter taps form ∷ es) h = absurd (cc)
+built-groups (CicDown factor stages delay ∷ es) h = absurd (cc)
+built-groups (CicUp factor stages delay ∷ es) h = absurd (cc)
+built-groups (Round shift mode ∷ es) h = (tt, built-groups es h)
+
+-- ---- a net of one input
+
+abbrev pub empty : NetView
+empty = record { cells = []; group = 0 }
+
+abbrev pub input_cell : ℕ → Cell
+input_cell width = record { group = 0; name = None; width = width; item = Some Input }
+
+module _ {n1 : NetView} {node : Node} {width : ℕ} (a : Adds empty n1 node width Input) where
+  pub only_input : (k : ℕ) (cell : Cell) → slice_get n1.cells k ≡ Some cell → cell ≡ input_cell width
+  only_input k cell there = one k cell (subst (λ (cells : List Cell). slice_get cells k ≡ Some cell) a.cells there)
+    where
+      one : (k : ℕ) (cell : Cell) → slice_get (input_cell width ∷ []) k ≡ Some cell → cell ≡ input_cell width
+      one zero cell e = cc
+      one (suc k) cell e = absurd (cc)
+
+  pub nameless : AreNameless n1.cells
+  nameless = record { free = λ name. record { none = λ k cell there is. let e : None ≡ Some name = sym (ap (λ (c : Cell). c.name) (only_input k cell there)) ∙ is in absurd (cc) } }
+
+  bound1 : IsBound n1.cells
+  bound1 = record { each = λ k cell there. subst (λ (c : Cell). IsSome c.item) (sym (only_input k cell there)) refl }
+
+  closed1 : IsControlClosed n1.cells
+  closed1 = record { each = λ k cell there control. absurd (let f : false ≡ true = sym (ap is_control (only_input k cell there)) ∙ control in cc) }
+
+  -- it stays the only input
+  has_input : (new : List Cell) → IsGrown n1.cells new → HasInput new width
+  has_input new grown =
+      let kept = grown.extends.keeps node.place _ (cell_of_added a) in
+      record {
+        cell = kept.cell;
+        there = subst (λ (k : ℕ). slice_get new k ≡ Some kept.cell) a.place kept.there;
+        is_it = kept.input;
+        same_width = kept.width;
+        only = λ k other there is. first k other there is (cases_lt k 1);
+      }
+    where
+      one : length n1.cells ≡ 1
+      one = ap length a.cells
+
+      first : (k : ℕ) (other : Cell) → slice_get new k ≡ Some other → is_input other.item ≡ true → (k < 1) ⊎ (1 ≤ k) → k ≡ 0
+      first k other there is (inl low) = omega arith
+      first k other there is (inr high) = absurd (let no = grown.no_input k other (omega (arith, one)) there in let f : false ≡ true = sym no ∙ is in cc)
+
+-- a sample fits the width
+sample_fits : (width ticks : ℕ) (z : ℤ) → IsBetween (input width ticks).low (input width ticks).high z → FitsWidth width z
+sample_fits width ticks z h =
+    let l = h.least in
+    let g = h.greatest in
+    let some = pow_pos (width - 1) in
+    record { low = l; high = omega (arith, ints, g, some) }
+
+-- ---- the whole
+
+module _ {n1 n2 n3 : NetView} {node : Node} {stream : Stream} {outputs : Outputs} (width ticks : ℕ) (elements : List Element) (wide : 1 ≤ width) (a : Adds empty n1 node width Input)
+    (chained : (let from : Stream = record { node = node; period = ticks; offset = 0 } in IsChained width ticks elements n1 n2 from stream))
+    (outs : AddsOutputs (last_stream width ticks elements).low (last_stream width ticks elements).high n2 n3 stream outputs) where
+  grown : IsGrown n1.cells n3.cells
+  grown = IsGrown-trans n1.cells n2.cells n3.cells chained.grown outs.grown
+
+  pub bound3 : IsBound n3.cells
+  bound3 = grown.bound (bound1 a)
+
+  shows : ShowsValues cut_all width ticks elements n3.cells outputs.out_q
+  shows inputs values v samples are run =
+      let last = last_stream width ticks elements in
+      let fits : (k : ℕ) → FitsWidth width (v (pos k)) = λ k. sample_fits width ticks (v (pos k)) (samples.within (pos k)) in
+      let from : Stream = record { node = node; period = ticks; offset = 0 } in
+      let carried : Carries values from v =
+      λ k.
+      let at : 0 + k * ticks ≡ k * ticks = omega arith in
+      ap (λ (t : ℕ). values t node.place) at
+      ∙ (grown.extends.runs cut_all IsCut-all inputs values run).each node.place _ (cell_of_added a) (k * ticks)
+      ∙ ap (cut_all false width) (are k)
+      ∙ IsCut-all.fitting false width (v (pos k)) wide (fits k) in
+      let through = chained.carries inputs values v samples (outs.grown.extends.runs cut_all IsCut-all inputs values run) carried in
+      let span = chained.span v samples in
+      let out_fits : (k : ℕ) → FitsWidth outs.width (chain elements v (pos k)) =
+      λ k. fits_between outs.width last.low (chain elements v (pos k)) last.high outs.least.holds_low outs.least.holds_high (span.within (pos k)).least (span.within (pos k)).greatest in
+      let shown = outs.carries cut_all IsCut-all inputs values (chain elements v) out_fits run through in
+      subst (λ (p : ℕ). Carries values (record { node = outputs.out_q; period = p; offset = latency width ticks elements }) (chain elements v)) chained.period
+      (subst (λ (o : ℕ). Carries values (record { node = outputs.out_q; period = stream.period; offset = o + 1 }) (chain elements v)) chained.offset shown)
+
+  pub chain_net : IsWellFormed n3.cells → IsChainNet width ticks elements n3.cells outputs.out_q outputs.out_valid
+  chain_net formed = record {
+    netlist = record { well_formed = formed; bound = bound3 };
+    input = has_input a n3.cells grown;
+    closed = grown.closed (closed1 a);
+    out_width = outs.width;
+    least = outs.least;
+    group = outs.group;
+    register = outs.register;
+    shown = outs.shown;
+    shown_width = outs.shown_width;
+    shown_control = outs.shown_control;
+    values = shows;
+    valid = subst (λ (p : ℕ). IsBitOf n3.cells (IsTickOf p (latency width ticks elements)) outputs.out_valid) chained.period
+        (subst (λ (o : ℕ). IsBitOf n3.cells (IsTickOf stream.period (o + 1)) outputs.out_valid) chained.offset outs.bit);
+  }

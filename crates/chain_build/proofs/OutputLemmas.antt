@@ -1,0 +1,130 @@
+-- The output register and its bit, call by call.
+use Rattle.std.proofs.Common.{◌≡◌, ◌⊎◌, ℕ, zero, suc, ◌+◌, ◌-◌, ◌*◌, ◌<◌, ◌≤◌, ◌^◌, List, [], ◌∷◌, length, refl, sym, ◌∙◌, ap, arith, Option, Some, None, slice_get, inl, inr, subst, ℤ, pos, ◌*ℤ◌, Bool, true, false, not, ◌&&◌}
+use Rattle.std.proofs.lemmas.Int.{ints}
+use Rattle.std.proofs.lemmas.Option.{slice_get_within}
+use Rattle.mr_values.specs.Sequence.{Sequence}
+use Rattle.mr_values.specs.Width.{FitsWidth, IsLeastWidth}
+use Rattle.net_graph.specs.declared.cell.Cell.{Cell}
+use Rattle.net_graph.specs.declared.cell.Node.{Node}
+use Rattle.net_graph.specs.declared.cell.Stream.{Stream}
+use Rattle.net_graph.specs.declared.cell.Item.TheVariants.{Shl}
+use Rattle.net_graph.specs.declared.name.Name.{Name}
+use Rattle.net_graph.specs.declared.name.NameKind.TheVariants.{Control, Output, Valid}
+use Rattle.net_graph.specs.Cells.{NetView, cell_at}
+use Rattle.net_graph.specs.Name.{is_control, is_control_name, is_input}
+use Rattle.net_graph.specs.WellFormed.{IsFree}
+use Rattle.net_graph.specs.Cut.{Cut, IsCut}
+use Rattle.net_graph.specs.Run.{Values, IsRun}
+use Rattle.net_graph.specs.Grow.{Extends, Grows, Adds, IsNamedAs, named_as}
+use Rattle.net_graph.proofs.Lists.{slice_get-set_same}
+use Rattle.net_graph.proofs.CellLemmas.{cell_at-is, cell_at-there}
+use Rattle.net_graph.proofs.CountLemmas.{adders_plain}
+use Rattle.net_graph.proofs.NetLemmas.{Extends-trans, cell_of_added}
+use Rattle.net_graph.proofs.GrowLemmas.{Grows-refl, Grows-trans, Grows-named, IsOfControl-later}
+use Rattle.pipeline_balance.specs.Numbered.{IsRegister, LeavesFree, name_of}
+use Rattle.pipeline_balance.specs.Gate.{IsTickOf, IsBitOf, IsCounter, AddsGate, HasTaken, shown, IsTaken, Carries}
+use Rattle.pipeline_balance.specs.Tree.{AddsNode}
+use Rattle.pipeline_balance.proofs.NumberedLemmas.{width-later, IsRegister-later, LeavesFree-refl}
+use Rattle.pipeline_balance.proofs.PairLemmas.{AddsNode-adds}
+use Rattle.pipeline_balance.proofs.TakenLemmas.{IsBitOf-later}
+use Rattle.chain_build.specs.declared.output.Outputs.{Outputs}
+use Rattle.chain_build.specs.Added.{IsGrown}
+use Rattle.chain_build.specs.Output.{IsCutTo, TakesOver, AddsOutputs}
+use Rattle.chain_build.proofs.Grown.{IsGrown-grows, IsGrown-trans}
+
+pub IsCutTo-same : (net : NetView) (node : Node) (width : ℕ) → node.place < length net.cells → (cell_at net.cells node.place).width ≡ width → IsCutTo net net node width node
+IsCutTo-same net node width inside same = record {
+  grows = Grows-refl net;
+  names = LeavesFree-refl net.cells (λ name. ⊥);
+  within = inside;
+  wide = same;
+  keeps = λ cut law inputs values run t fits. refl;
+}
+
+times_one : (z : ℤ) → z *ℤ pos (2 ^ 0) ≡ z
+times_one z = omega (arith, ints)
+
+pub IsCutTo-shl : {old new : NetView} {from to : Node} {width : ℕ} → 1 ≤ old.group → 1 ≤ width → Adds old new to width (Shl from 0) → IsCutTo old new from width to
+IsCutTo-shl {old} {new} {from} {to} {width} data_group wide a =
+    let node : AddsNode old new 0 to (λ cut v t. cut false width (v t from.place *ℤ pos (2 ^ 0))) =
+    AddsNode-adds 0 (λ cut v t. cut false width (v t from.place *ℤ pos (2 ^ 0))) data_group a refl (adders_plain old.group a refl ∙ omega arith) (λ cut law x v r o t. o t) in
+    record {
+      grows = node.grows;
+      names = node.names;
+      within = node.computes.within;
+      wide = ap (λ (c : Cell). c.width) (cell_at-is new.cells to.place _ (cell_of_added a));
+      keeps = λ cut law inputs values run t fits.
+          node.computes.holds cut law inputs values run t
+          ∙ ap (cut false width) (times_one (values t from.place))
+          ∙ law.fitting false width (values t from.place) wide fits;
+    }
+
+pub counter_nameless : {old new : NetView} {ticks : ℕ → Type 0} {bit : Node} → IsCounter old new ticks bit → (cell_at new.cells bit.place).name ≡ None
+counter_nameless {old} {new} {ticks} {bit} b = ap (λ (c : Cell). c.name) (cell_at-is new.cells bit.place b.shape.cell b.shape.there) ∙ b.nameless
+
+valid_apart : name_of 0 Valid 0 ≡ name_of 0 Output 0 → ⊥
+valid_apart e = let k : Valid ≡ Output = ap (λ (x : Name). x.kind) e in absurd (cc)
+
+-- the output's name is free on the way
+pub output_free : {n0 n1 n2 : NetView} {from : Stream} {node : Node} {gate : Option Node} {width : ℕ} → IsCutTo n0 n1 from.node width node → AddsGate n1 n2 from.period from.offset gate → IsFree n0.cells (name_of 0 Output 0) → IsFree n2.cells (name_of 0 Output 0)
+output_free cut_node g f = g.names.free (name_of 0 Output 0) (λ e. absurd (cc)) (cut_node.names.free (name_of 0 Output 0) (λ none. none) f)
+
+module _ {n0 n1 n2 n3 n4 : NetView} {from : Stream} {node out_q out_valid : Node} {gate : Option Node} {width : ℕ}
+    (cut_node : IsCutTo n0 n1 from.node width node)
+    (g : AddsGate n1 n2 from.period from.offset gate)
+    (t : (let end : Stream = record { node = node; period = from.period; offset = from.offset } in IsTaken n2 n3 end (name_of 0 Output 0) out_q))
+    (b : IsCounter n3 n4 (IsTickOf from.period (from.offset + 1)) out_valid) where
+  pub valid_free : IsFree n0.cells (name_of 0 Valid 0) → IsFree n4.cells (name_of 0 Valid 0)
+  valid_free f =
+      b.names.free (name_of 0 Valid 0) (λ e. absurd (cc))
+      (t.names.free (name_of 0 Valid 0) valid_apart (g.names.free (name_of 0 Valid 0) (λ e. absurd (cc)) (cut_node.names.free (name_of 0 Valid 0) (λ none. none) f)))
+
+  module _ {n5 : NetView} (low high : ℤ) (positive : 1 ≤ from.period) (least : IsLeastWidth low high width) (n : IsNamedAs n4 n5 out_valid (name_of 0 Valid 0)) where
+    inside : out_valid.place < length n4.cells
+    inside = b.bit_of.within
+
+    stays : is_control (named_as (cell_at n4.cells out_valid.place) (name_of 0 Valid 0)) ≡ is_control (cell_at n4.cells out_valid.place)
+    stays = ap (λ (o : Option Name). is_control_name o (cell_at n4.cells out_valid.place).group && not (is_input (cell_at n4.cells out_valid.place).item)) (sym (counter_nameless b))
+
+    named_grows : Grows n4 n5
+    named_grows = Grows-named inside (counter_nameless b) stays n
+
+    x4 : Extends n3.cells n5.cells
+    x4 = Extends-trans n3.cells n4.cells n5.cells b.grows.extends named_grows.extends
+
+    x2 : Extends n2.cells n5.cells
+    x2 = Extends-trans n2.cells n3.cells n5.cells t.grows.extends x4
+
+    x1 : Extends n1.cells n5.cells
+    x1 = Extends-trans n1.cells n2.cells n5.cells g.grows.extends x2
+
+    end_width : (cell_at n2.cells node.place).width ≡ width
+    end_width = width-later n1.cells n2.cells node.place g.grows.extends cut_node.within ∙ cut_node.wide
+
+    valid_is : cell_at n5.cells out_valid.place ≡ named_as (cell_at n4.cells out_valid.place) (name_of 0 Valid 0)
+    valid_is = cell_at-is n5.cells out_valid.place _ (subst (λ (cells : List Cell). slice_get cells out_valid.place ≡ Some (named_as (cell_at n4.cells out_valid.place) (name_of 0 Valid 0))) (sym n.cells) (slice_get-set_same n4.cells out_valid.place _ inside))
+
+    takes : TakesOver n5.cells from width out_q
+    takes cut law inputs values v fits run carried k =
+        let at : ℕ = from.offset + k * from.period in
+        let tick : from.offset + 1 + k * from.period ≡ suc at = omega arith in
+        let taken : HasTaken from.period from.offset (suc k) (suc at) = (omega arith, omega arith) in
+        let fit : FitsWidth width (values at from.node.place) = subst (FitsWidth width) (sym (carried k)) (fits k) in
+        ap (λ (s : ℕ). values s out_q.place) tick
+        ∙ t.holds.holds cut law inputs values (x4.runs cut law inputs values run) (suc at) (suc k) taken
+        ∙ cut_node.keeps cut law inputs values (x1.runs cut law inputs values run) at fit
+        ∙ carried k
+
+    pub AddsOutputs-named : AddsOutputs low high n0 n5 from (record { out_q = out_q; out_valid = out_valid })
+    AddsOutputs-named = record {
+      grown = IsGrown-trans n0.cells n4.cells n5.cells (IsGrown-grows (Grows-trans cut_node.grows (Grows-trans g.grows (Grows-trans t.grows b.grows)))) (IsGrown-grows named_grows);
+      width = width;
+      least = least;
+      group = n2.group;
+      register = subst (λ (u : ℕ). IsRegister n5.cells out_q.place n2.group (name_of 0 Output 0) u) end_width (IsRegister-later x4 t.register);
+      carries = takes;
+      shown = ap (λ (c : Cell). c.name) valid_is;
+      shown_width = ap (λ (c : Cell). c.width) valid_is ∙ ap (λ (c : Cell). c.width) (cell_at-is n4.cells out_valid.place b.shape.cell b.shape.there) ∙ b.shape.same_width;
+      shown_control = IsOfControl-later n4.cells n5.cells out_valid.place named_grows.extends (record { cell = b.shape.cell; there = b.shape.there; control = b.shape.same_control });
+      bit = IsBitOf-later b.bit_of named_grows.extends;
+    }

@@ -1,0 +1,71 @@
+-- The values of a stream stay in its span through a group.
+use Rattle.std.proofs.Common.{◌≡◌, ℕ, zero, suc, ◌+◌, ◌-◌, ◌*◌, ◌^◌, ◌<◌, ◌≤◌, max, refl, sym, ◌∙◌, ap, arith, subst, List, [], ◌∷◌, ℤ, pos, negsuc, ◌+ℤ◌, ◌-ℤ◌, ◌*ℤ◌, ◌≤ℤ◌, Option, None, Some, Bool, true, false, cond, nat_eq}
+use Rattle.std.specs.Prelude.{unsigned_abs, unwrap_or}
+use Rattle.std.proofs.lemmas.Int.{ints}
+use Rattle.mr_values.specs.declared.plan.Mode.{Mode}
+use Rattle.mr_values.specs.declared.plan.Element.TheVariants.{Round}
+use Rattle.mr_values.specs.declared.plan.Form.{Form}
+use Rattle.mr_values.specs.Sequence.{Sequence, weighted_sum, filter, up, down}
+use Rattle.mr_values.specs.Value.{round, round_value}
+use Rattle.mr_values.specs.Width.{floor_quotient, floor_remainder}
+use Rattle.mr_values.specs.Timing.{Group, Fir, DownCic, UpCic, Rounding, low_after, high_after}
+use Rattle.mr_values.proofs.Zeros.{zeros, apply-zeros}
+use Rattle.plan_check.specs.Groups.{IsGroup}
+use Rattle.plan_laws.specs.Laws.{IsBetween}
+use Rattle.plan_laws.proofs.Between.{AllBetween, between-filter, between-up, between-down, between-round}
+use Rattle.plan_laws.proofs.Reach.{apply_group, optional, filter_by}
+use Rattle.stage_law.specs.Streams.{AreWithin, HasRoom}
+use Rattle.span_ranges.specs.Span.{IsInSpan}
+use Rattle.chain_build.specs.Built.{IsBuiltGroup}
+
+-- ---- causal sequences
+
+abbrev pub IsCausal : Sequence → Type 0
+IsCausal v = (n : ℕ) → v (negsuc n) ≡ pos 0
+
+round-none : (shift : ℕ) (mode : Mode) → 1 ≤ shift → round_value mode shift (pos 0) ≡ pos 0
+round-none shift mode some = ap (λ (v : Sequence). v (pos 0)) (apply-zeros (Round (pos shift) mode) some)
+
+causal-round : (shift : ℕ) (mode : Mode) (v : Sequence) → 1 ≤ shift → IsCausal v → IsCausal (round mode shift v)
+causal-round shift mode v some h n = ap (round_value mode shift) (h n) ∙ round-none shift mode some
+
+-- ---- a group
+
+in_span-round : (shift : ℕ) (mode : Mode) (low high : ℤ) (v : Sequence) → 1 ≤ shift → IsInSpan low high v → IsInSpan (round_value mode shift low) (round_value mode shift high) (round mode shift v)
+in_span-round shift mode low high v some h = record { causal = causal-round shift mode v some h.causal; within = between-round mode shift low high v h.within }
+
+pub in_span-group : (g : Group) (low high : ℤ) (v : Sequence) → IsGroup g → IsBuiltGroup g → IsInSpan low high v → IsInSpan (low_after g low high) (high_after g low high) (apply_group g v)
+in_span-group (Fir u f d) low high v limits is h = absurd is
+in_span-group (DownCic factor stages delay) low high v limits is h = absurd is
+in_span-group (UpCic factor stages delay) low high v limits is h = absurd is
+in_span-group (Rounding shift mode) low high v limits is h = in_span-round shift mode low high v limits.0 h
+
+-- ---- spans that hold 0
+
+pub in_span-zeros : (low high : ℤ) → IsBetween low high (pos 0) → IsInSpan low high zeros
+in_span-zeros low high h = record { causal = λ n. refl; within = λ k. h }
+
+pub zero-in_span : (low high : ℤ) (v : Sequence) → IsInSpan low high v → IsBetween low high (pos 0)
+zero-in_span low high v h = subst (λ (z : ℤ). IsBetween low high z) (h.causal 0) (h.within (negsuc 0))
+
+pub zero-group : (g : Group) (low high : ℤ) → IsGroup g → IsBuiltGroup g → IsBetween low high (pos 0) → IsBetween (low_after g low high) (high_after g low high) (pos 0)
+zero-group g low high limits is h = zero-in_span (low_after g low high) (high_after g low high) (apply_group g zeros) (in_span-group g low high zeros limits is (in_span-zeros low high h))
+
+-- ---- magnitudes
+
+between-within : (low high z : ℤ) → IsBetween low high z → unsigned_abs z ≤ max (unsigned_abs low) (unsigned_abs high)
+between-within low high z h = by low high z h.least h.greatest
+  where
+    by : (low high z : ℤ) → low ≤ℤ z → z ≤ℤ high → unsigned_abs z ≤ max (unsigned_abs low) (unsigned_abs high)
+    by low (pos h) (pos z) p q = omega (arith, ints, q)
+    by low (negsuc h) (pos z) p q = absurd (omega (arith, ints, q))
+    by (pos l) high (negsuc z) p q = absurd (omega (arith, ints, p))
+    by (negsuc l) high (negsuc z) p q = omega (arith, ints, p)
+
+pub HasRoom-span : (low high : ℤ) (gain : ℕ) → max (unsigned_abs low) (unsigned_abs high) ≤ 2 ^ 125 → gain * max (unsigned_abs low) (unsigned_abs high) ≤ 2 ^ 125 → HasRoom (IsInSpan low high) gain
+HasRoom-span low high gain most more = record {
+  most = max (unsigned_abs low) (unsigned_abs high);
+  within = record { each = λ v is k. between-within low high (v k) (is.within k) };
+  before = most;
+  after = more;
+}

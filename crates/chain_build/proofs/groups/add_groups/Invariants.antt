@@ -1,0 +1,8 @@
+use Rattle.std.proofs.Common.{drop}
+use Rattle.mr_values.specs.Value.{size}
+use Rattle.chain_build.proofs.SoFar.{SoFar}
+use Rattle.chain_build.proofs.groups.add_groups.Given as goal
+
+-- the groups before are added, and those that are left pass the tests
+abbrev pub invariant-loop-fact : goal.invariant-loop-fact
+invariant-loop-fact l = SoFar (size l.plan.width) (size l.plan.ticks) l.plan.elements l.fn.net l.net l.fn.from l.last l.rest (drop l.fact-index l.facts.groups.items) l.number

@@ -1,0 +1,76 @@
+-- What the groups of a plan add to a net, one after another.
+use Rattle.std.specs.Prelude.{◌≡◌, ℕ, ℤ, ◌-◌, ◌*◌, ◌%◌, ◌^◌, ◌≤◌, ◌<◌, false, List, length, Some, slice_get, unwrap_or}
+use Rattle.mr_values.specs.declared.plan.Element.{Element}
+use Rattle.mr_values.specs.Sequence.{Sequence}
+use Rattle.mr_values.specs.Value.{chain}
+use Rattle.mr_values.specs.Timing.{Group, Fir, DownCic, UpCic, Rounding, up_factor, down_factor, input, last_stream}
+use Rattle.net_graph.specs.declared.cell.Cell.{Cell}
+use Rattle.net_graph.specs.declared.cell.Stream.{Stream}
+use Rattle.net_graph.specs.declared.name.Name.{Name}
+use Rattle.net_graph.specs.declared.name.NameKind.TheVariants.{Control}
+use Rattle.net_graph.specs.Cells.{NetView}
+use Rattle.net_graph.specs.Control.{IsControlClosed}
+use Rattle.net_graph.specs.Cut.{Cut, cut_all}
+use Rattle.net_graph.specs.Grow.{Extends}
+use Rattle.net_graph.specs.Name.{is_input}
+use Rattle.net_graph.specs.Run.{Values, IsRun}
+use Rattle.net_graph.specs.WellFormed.{IsBound, IsFree}
+use Rattle.pipeline_balance.specs.Gate.{Carries}
+use Rattle.rounding_stage.specs.Rounding.{rounding_facts}
+use Rattle.span_ranges.specs.Span.{IsInSpan}
+use Rattle.stage_law.specs.Facts.{StageFacts}
+use Rattle.stage_law.specs.Realises.{Realises}
+use Rattle.stage_law.specs.Streams.{Streams}
+use Rattle.chain_build.specs.declared.groups.Added.{Added}
+
+-- what a group is as a stage
+abbrev pub HasFacts : Group → StageFacts → Type 0
+HasFacts (Fir up filter down) facts = ⊥
+HasFacts (DownCic factor stages delay) facts = ⊥
+HasFacts (UpCic factor stages delay) facts = ⊥
+HasFacts (Rounding shift mode) facts = facts ≡ rounding_facts shift mode
+
+-- the periods at which a group takes a stream
+pub record IsTaking (g : Group) (period : ℕ) : Type 0 where
+  pub positive : 1 ≤ period
+  pub long : period ≤ 2 ^ 31 - 1
+  pub whole : period * down_factor g % up_factor g ≡ 0
+
+-- the group's stage was added and realises its elements, and its cost was told
+pub record IsGroupAdded (g : Group) (streams : Streams) (old new : NetView) (from : Stream) (added : Added) : Type 0 where
+  pub facts : StageFacts
+  pub has_facts : HasFacts g facts
+  pub realises : Realises facts streams old new from added.emitted
+  pub adders : added.cost.adders ≡ facts.adders
+  pub windows : added.cost.windows ≡ facts.windows
+  pub tables : added.cost.tables ≡ facts.tables
+
+-- the new net has more nodes than the old and no other input; it is bound and its control closed where the old net's was
+pub record IsGrown (old new : List Cell) : Type 0 where
+  pub extends : Extends old new
+  pub bound : IsBound old → IsBound new
+  pub closed : IsControlClosed old → IsControlClosed new
+  pub no_input : (place : ℕ) (cell : Cell) → length old ≤ place → slice_get new place ≡ Some cell → is_input cell.item ≡ false
+
+-- no node has a name
+pub record AreNameless (cells : List Cell) : Type 0 where
+  pub free : (name : Name) → IsFree cells name
+
+-- in each run that is cut so, where one stream carries samples of the width, the other carries the chain's values
+abbrev pub CarriesChain : Cut → ℕ → ℕ → List Element → List Cell → Stream → Stream → Type 0
+CarriesChain cut width ticks elements cells from to =
+    (inputs : ℕ → ℤ) (values : Values) (v : Sequence) → IsInSpan (input width ticks).low (input width ticks).high v → IsRun cut cells inputs values → Carries values from v → Carries values to (chain elements v)
+
+-- The new net has a stream that carries the chain's values, with the period, offset and span of the last stream; of names in group 0 only
+-- some of control are taken.
+pub record IsChained (width ticks : ℕ) (elements : List Element) (old new : NetView) (from to : Stream) : Type 0 where
+  pub grown : IsGrown old.cells new.cells
+  pub grouped : 1 ≤ new.group
+  pub within : to.node.place < length new.cells
+  pub period : to.period ≡ (last_stream width ticks elements).period
+  pub offset : to.offset ≡ (last_stream width ticks elements).offset
+  pub positive : 1 ≤ to.period
+  pub early : to.offset < 2 ^ 31
+  pub span : (v : Sequence) → IsInSpan (input width ticks).low (input width ticks).high v → IsInSpan (last_stream width ticks elements).low (last_stream width ticks elements).high (chain elements v)
+  pub carries : CarriesChain cut_all width ticks elements new.cells from to
+  pub names : (name : Name) → (name.kind ≡ Control → ⊥) → name.group ≡ 0 → IsFree new.cells name

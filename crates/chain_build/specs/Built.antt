@@ -1,0 +1,30 @@
+-- Which plans are built.
+use Rattle.std.specs.Prelude.{Bool, true, false, List, [], ◌∷◌}
+use Rattle.std.specs.List.{list_all}
+use Rattle.mr_values.specs.declared.plan.Element.{Element}
+use Rattle.mr_values.specs.declared.plan.Element.TheVariants.{Up, Down, Filter, CicDown, CicUp, Round}
+use Rattle.mr_values.specs.Timing.{Group, Fir, DownCic, UpCic, Rounding}
+
+-- an element that is built
+abbrev pub is_built : Element → Bool
+is_built (Up factor) = false
+is_built (Down factor) = false
+is_built (Filter taps form) = false
+is_built (CicDown factor stages delay) = false
+is_built (CicUp factor stages delay) = false
+is_built (Round shift mode) = true
+
+-- all elements are built
+abbrev pub are_built : List Element → Bool
+are_built elements = list_all is_built elements
+
+-- a group of elements that are built
+abbrev pub IsBuiltGroup : Group → Type 0
+IsBuiltGroup (Fir up filter down) = ⊥
+IsBuiltGroup (DownCic factor stages delay) = ⊥
+IsBuiltGroup (UpCic factor stages delay) = ⊥
+IsBuiltGroup (Rounding shift mode) = Unit {0}
+
+abbrev pub AreBuiltGroups : List Group → Type 0
+AreBuiltGroups [] = Unit {0}
+AreBuiltGroups (g ∷ gs) = IsBuiltGroup g × AreBuiltGroups gs

@@ -1,0 +1,45 @@
+-- The output register, and the bit that is shown as `out_valid`.
+use Rattle.std.specs.Prelude.{◌≡◌, ℕ, ◌+◌, ◌<◌, ℤ, pos, List, length, Some}
+use Rattle.mr_values.specs.Sequence.{Sequence}
+use Rattle.mr_values.specs.Width.{FitsWidth, IsLeastWidth}
+use Rattle.net_graph.specs.declared.cell.Cell.{Cell}
+use Rattle.net_graph.specs.declared.cell.Node.{Node}
+use Rattle.net_graph.specs.declared.cell.Stream.{Stream}
+use Rattle.net_graph.specs.declared.name.NameKind.TheVariants.{Output, Valid}
+use Rattle.net_graph.specs.Cells.{NetView, cell_at}
+use Rattle.net_graph.specs.Control.{IsOfControl}
+use Rattle.net_graph.specs.Cut.{Cut, IsCut}
+use Rattle.net_graph.specs.Grow.{Grows}
+use Rattle.net_graph.specs.Run.{Values, IsRun}
+use Rattle.pipeline_balance.specs.Gate.{IsTickOf, IsBitOf, Carries}
+use Rattle.pipeline_balance.specs.Numbered.{IsRegister, LeavesFree, name_of}
+use Rattle.chain_build.specs.declared.output.Outputs.{Outputs}
+use Rattle.chain_build.specs.Added.{IsGrown}
+
+-- the node of this width has the value of `from` wherever that fits the width
+pub record IsCutTo (old new : NetView) (from : Node) (width : ℕ) (to : Node) : Type 0 where
+  pub grows : Grows old new
+  pub names : LeavesFree old.cells new.cells (λ name. ⊥)
+  pub within : to.place < length new.cells
+  pub wide : (cell_at new.cells to.place).width ≡ width
+  pub keeps : (cut : Cut) → IsCut cut → (inputs : ℕ → ℤ) (values : Values) → IsRun cut new.cells inputs values → (t : ℕ) → FitsWidth width (values t from.place) → values t to.place ≡ values t from.place
+
+-- the register carries one tick later what the stream carries and fits it
+abbrev pub TakesOver : List Cell → Stream → ℕ → Node → Type 0
+TakesOver cells from width register =
+    (cut : Cut) → IsCut cut → (inputs : ℕ → ℤ) (values : Values) (v : Sequence) → ((k : ℕ) → FitsWidth width (v (pos k))) → IsRun cut cells inputs values → Carries values from v
+    → Carries values (record { node = register; period = from.period; offset = from.offset + 1 }) v
+
+-- The output register has the least width that holds the span, and carries the stream one tick later; the bit shown as `out_valid` is
+-- set exactly at these ticks.
+pub record AddsOutputs (low high : ℤ) (old new : NetView) (from : Stream) (outputs : Outputs) : Type 0 where
+  pub grown : IsGrown old.cells new.cells
+  pub width : ℕ
+  pub least : IsLeastWidth low high width
+  pub group : ℕ
+  pub register : IsRegister new.cells outputs.out_q.place group (name_of 0 Output 0) width
+  pub carries : TakesOver new.cells from width outputs.out_q
+  pub shown : (cell_at new.cells outputs.out_valid.place).name ≡ Some (name_of 0 Valid 0)
+  pub shown_width : (cell_at new.cells outputs.out_valid.place).width ≡ 1
+  pub shown_control : IsOfControl new.cells outputs.out_valid.place
+  pub bit : IsBitOf new.cells (IsTickOf from.period (from.offset + 1)) outputs.out_valid

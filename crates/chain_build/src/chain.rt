@@ -1,0 +1,80 @@
+// The net of a plan.
+
+ghost use Rattle.std.specs.Prelude.{◌≡◌, pos, ◌≤ℤ◌, true, IfOk};
+ghost use Rattle.mr_values.specs.Value.{size};
+ghost use Rattle.plan_check.specs.Accepted.{IsAccepted, AreFacts};
+ghost use Rattle.chain_build.specs.Built.{are_built, is_built};
+ghost use Rattle.chain_build.specs.ChainNet.{IsChainNet};
+
+use crate::groups::add_groups;
+use crate::output::add_outputs;
+use mr_values::{Element, Memory, Plan};
+use net_graph::{Net, Netlist, Node, Stream};
+use plan_check::Facts;
+use std::alloc::Global;
+
+/// A net with its output register and the node that is shown as `out_valid`.
+#[derive(Drop)]
+pub struct Built {
+    pub net: Netlist,
+    pub out_q: Node,
+    pub out_valid: Node,
+}
+
+// Whether the element is built.
+fn can_add(element: &Element) -> bool
+    ensures { result ≡ is_built element.now }
+{
+    matches!(element, Element::Round { .. })
+}
+
+/// Whether `build` takes the elements of a plan.
+pub fn can_build(plan: &Plan) -> bool
+    ensures { result ≡ are_built plan.now.elements }
+{
+    plan.elements.as_slice().iter().all(can_add)
+}
+
+// The bits of a sample.
+fn width_of(plan: &Plan) -> u8
+    requires least { pos 1 ≤ℤ plan.now.width }
+    requires most { plan.now.width ≤ℤ pos 64 }
+    ensures { result ≡ size plan.now.width }
+{
+    plan.width as u8
+}
+
+// The ticks of a sample.
+fn ticks_of(plan: &Plan) -> u64
+    requires least { pos 1 ≤ℤ plan.now.ticks }
+    requires most { plan.now.ticks ≤ℤ pos 65536 }
+    ensures { result ≡ size plan.now.ticks }
+{
+    plan.ticks as u64
+}
+
+/// The net of an accepted plan, of which these are the facts. After want of memory there is none.
+pub fn build(alloc: Global, plan: &Plan, facts: &Facts) -> Result<Built, Memory>
+    requires accepted { IsAccepted plan.now }
+    requires are_facts { AreFacts (size plan.now.width) (size plan.now.ticks) plan.now.elements facts.now }
+    requires built { are_built plan.now.elements ≡ true }
+    ensures { IfOk result (λ b. IsChainNet (size plan.now.width) (size plan.now.ticks) plan.now.elements b.net b.out_q b.out_valid) }
+{
+    let mut net = Net::new(alloc);
+    let node = net.input(width_of(plan))?;
+    let from = Stream {
+        node,
+        period: ticks_of(plan),
+        offset: 0,
+    };
+    let chained = add_groups(alloc, &mut net, from, plan, facts)?;
+    let outputs = add_outputs(alloc, &mut net, chained.stream, facts.end_lo, facts.end_hi)?;
+    match net.finish() {
+        Ok(net) => Ok(Built {
+            net,
+            out_q: outputs.out_q,
+            out_valid: outputs.out_valid,
+        }),
+        Err(_) => unreachable!(),
+    }
+}

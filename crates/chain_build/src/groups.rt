@@ -1,0 +1,144 @@
+// The groups of a plan, one after another.
+
+ghost use Rattle.std.specs.Prelude.{◌≡◌, ◌≤◌, ◌<◌, ◌^◌, pos, ◌≤ℤ◌, length, IfOk};
+ghost use Rattle.mr_values.specs.Value.{size};
+ghost use Rattle.mr_values.specs.Timing.{groups};
+ghost use Rattle.net_graph.specs.Grow.{Extends};
+ghost use Rattle.plan_check.specs.Accepted.{IsAccepted, AreFacts};
+ghost use Rattle.plan_check.specs.Amounts.{gain};
+ghost use Rattle.plan_check.specs.Groups.{group_of, IsGroup};
+ghost use Rattle.span_ranges.specs.Span.{IsInSpan};
+ghost use Rattle.stage_law.specs.Realises.{Realises, IsUnused};
+ghost use Rattle.stage_law.specs.Streams.{HasRoom};
+ghost use Rattle.chain_build.specs.Built.{IsBuiltGroup, AreBuiltGroups};
+ghost use Rattle.chain_build.specs.Added.{IsTaking, IsGroupAdded, AreNameless, IsChained};
+
+use mr_values::{Memory, Plan};
+use net_graph::{Net, Stream};
+use plan_check::{Facts, GroupFacts, PlanGroup, split_group};
+use rounding_stage::Rounding;
+use span_ranges::SpanRanges;
+use stage_law::{Cost, Emitted, Stage};
+use std::alloc::Global;
+
+/// What a group added.
+#[derive(Drop)]
+pub(crate) struct Added {
+    pub(crate) emitted: Emitted,
+    pub(crate) cost: Cost,
+}
+
+/// The stream after all groups, and what each group costs.
+#[derive(Drop)]
+pub(crate) struct Chained {
+    pub(crate) stream: Stream,
+    pub(crate) costs: Vec<Cost>,
+}
+
+// Adds the nodes of a stage.
+fn emit_stage<S: Stage>(
+    alloc: Global,
+    net: &mut Net,
+    from: Stream,
+    stage: &S,
+    ranges: &SpanRanges,
+) -> Result<Added, Memory>
+    requires within { from.node.place < length net.old.cells }
+    requires group { 1 ≤ net.old.group }
+    requires unused { IsUnused net.old.cells net.old.group }
+    requires early { from.offset < 2 ^ 31 }
+    requires takes { S.takes stage.now from.period }
+    requires room { HasRoom (IsInSpan ranges.now.low ranges.now.high) (S.facts stage.now).gain }
+    ensures realises { IfOk result (λ a. Realises (S.facts stage.now) (IsInSpan ranges.now.low ranges.now.high) net.old net.new from a.emitted) }
+    ensures adders { IfOk result (λ a. a.cost.adders ≡ (S.facts stage.now).adders) }
+    ensures windows { IfOk result (λ a. a.cost.windows ≡ (S.facts stage.now).windows) }
+    ensures tables { IfOk result (λ a. a.cost.tables ≡ (S.facts stage.now).tables) }
+    ensures extends { Extends net.old.cells net.new.cells }
+    ensures same_group { net.new.group ≡ net.old.group }
+{
+    let emitted = stage.emit(alloc, net, from, ranges)?;
+    let cost = stage.cost();
+    Ok(Added { emitted, cost })
+}
+
+// Adds the nodes of a group.
+fn add_group(
+    alloc: Global,
+    net: &mut Net,
+    from: Stream,
+    group: &PlanGroup,
+    ranges: &SpanRanges,
+) -> Result<Added, Memory>
+    requires within { from.node.place < length net.old.cells }
+    requires group { 1 ≤ net.old.group }
+    requires unused { IsUnused net.old.cells net.old.group }
+    requires early { from.offset < 2 ^ 31 }
+    requires built { IsBuiltGroup (group_of group.now) }
+    requires limits { IsGroup (group_of group.now) }
+    requires takes { IsTaking (group_of group.now) from.period }
+    requires room { HasRoom (IsInSpan ranges.now.low ranges.now.high) (gain (group_of group.now)) }
+    ensures ok { IfOk result (λ a. IsGroupAdded (group_of group.now) (IsInSpan ranges.now.low ranges.now.high) net.old net.new from a) }
+    ensures extends { Extends net.old.cells net.new.cells }
+    ensures same_group { net.new.group ≡ net.old.group }
+{
+    match group {
+        PlanGroup::Round { shift, mode } => {
+            let stage = Rounding::new(*shift as u8, *mode);
+            let added = emit_stage(alloc, net, from, &stage, ranges)?;
+            Ok(added)
+        }
+        PlanGroup::Fir { .. } | PlanGroup::CicDown { .. } | PlanGroup::CicUp { .. } => {
+            unreachable!()
+        }
+    }
+}
+
+// The ranges of the streams before a group.
+fn ranges_before(fact: &GroupFacts) -> SpanRanges
+    requires below { fact.now.span_lo ≤ℤ pos 0 }
+    requires above { pos 0 ≤ℤ fact.now.span_hi }
+    ensures low { result.low ≡ fact.now.span_lo }
+    ensures high { result.high ≡ fact.now.span_hi }
+{
+    SpanRanges::new(fact.span_lo, fact.span_hi)
+}
+
+/// Adds the nodes of the groups of a plan to a net without names, in net group J for group J.
+pub(crate) fn add_groups(
+    alloc: Global,
+    net: &mut Net,
+    from: Stream,
+    plan: &Plan,
+    facts: &Facts,
+) -> Result<Chained, Memory>
+    requires within { from.node.place < length net.old.cells }
+    requires nameless { AreNameless net.old.cells }
+    requires offset { from.offset ≡ 0 }
+    requires period { from.period ≡ size plan.now.ticks }
+    requires accepted { IsAccepted plan.now }
+    requires are_facts { AreFacts (size plan.now.width) (size plan.now.ticks) plan.now.elements facts.now }
+    requires built { AreBuiltGroups (groups plan.now.elements) }
+    ensures ok { IfOk result (λ c. IsChained (size plan.now.width) (size plan.now.ticks) plan.now.elements net.old net.new from c.stream) }
+{
+    let mut rest = plan.elements.as_slice();
+    let mut last = from;
+    let mut number = 1;
+    let mut costs = Vec::new(alloc);
+    net.set_group(1);
+    for fact in &facts.groups {
+        let Some((group, others)) = split_group(rest) else {
+            unreachable!()
+        };
+        net.set_group(number);
+        let ranges = ranges_before(fact);
+        let added = add_group(alloc, net, last, &group, &ranges)?;
+        last = added.emitted.stream;
+        costs.push(added.cost)?;
+        rest = others;
+        number += 1;
+    }
+    Ok(Chained {
+        stream: last,
+        costs,
+    })
+}
