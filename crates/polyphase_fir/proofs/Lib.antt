@@ -1,0 +1,10 @@
+pub mod Logarithm
+pub mod FormLemmas
+pub mod TermLemmas
+pub mod HeldLemmas
+pub mod WidthsLemmas
+pub mod BoundLemmas
+pub mod SumLemmas
+pub mod PhaseBounds
+pub mod CuttingLemmas
+pub mod RealisesLemmas

@@ -1,0 +1,43 @@
+-- What a parallel filter between an Up and a Down is, as a stage.
+use Rattle.std.specs.Prelude.{ℕ, zero, suc, ◌+◌, ◌<◌, ◌≤◌, ◌≡◌, ◌^◌, List, [], ◌∷◌, length, ℤ, pos}
+use Rattle.mr_values.specs.declared.plan.Element.{Element}
+use Rattle.mr_values.specs.declared.plan.Element.TheVariants.{Up, Down, Filter}
+use Rattle.mr_values.specs.declared.plan.Form.TheVariants.{Parallel}
+use Rattle.mr_values.specs.Timing.{ceil_div, ceil_log, terms, greatest}
+use Rattle.signed_digit.specs.Terms.{terms_of}
+use Rattle.stage_law.specs.Facts.{StageFacts}
+use Rattle.stage_law.specs.Streams.{magnitudes}
+use Rattle.stage_law.specs.declared.stage.Kind.TheVariants.{Parallel as ParallelKind}
+use Rattle.polyphase_fir.specs.Placed.{term_adders}
+
+-- the adders of the trees of the phases below r
+abbrev pub adders_below : ℕ → List ℤ → ℕ → ℕ
+adders_below up taps zero = 0
+adders_below up taps (suc r) = adders_below up taps r + term_adders (terms_of up r taps)
+
+abbrev pub elements_of : List ℤ → ℕ → ℕ → List Element
+elements_of taps up down = Up (pos up) ∷ Filter taps Parallel ∷ Down (pos down) ∷ []
+
+-- the levels of each tree
+abbrev pub levels_of : List ℤ → ℕ → ℕ
+levels_of taps up = ceil_log (greatest terms up taps)
+
+abbrev pub polyphase_facts : List ℤ → ℕ → ℕ → StageFacts
+polyphase_facts taps up down = record {
+  kind = ParallelKind;
+  elements = elements_of taps up down;
+  up = up;
+  down = down;
+  delay = λ period. 1 + levels_of taps up;
+  gain = magnitudes taps;
+  adders = adders_below up taps up;
+  windows = ceil_div (length taps) up;
+  tables = 0;
+  longest = ceil_div (length taps) up + 1;
+}
+
+-- the streams of these periods are taken: one whole tick from value to value, and few enough ticks
+pub record TakesPeriod (up down period : ℕ) : Type 0 where
+  pub plain : up ≡ 1
+  pub some : 1 ≤ period
+  pub most : period < 2 ^ 31

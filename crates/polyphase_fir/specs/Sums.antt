@@ -1,0 +1,27 @@
+-- The tree of a phase over a window.
+use Rattle.std.specs.Prelude.{◌≡◌, ℕ, ◌^◌, ◌≤◌, List, length, map, All, true}
+use Rattle.net_graph.specs.declared.cell.Cell.{Cell}
+use Rattle.net_graph.specs.declared.cell.Node.{Node}
+use Rattle.net_graph.specs.Cells.{NetView}
+use Rattle.signed_digit.specs.declared.term_list.Term.{Term}
+use Rattle.pipeline_balance.specs.Leaves.{IsLeaf, IsNegatable}
+use Rattle.pipeline_balance.specs.Tree.{IsTree}
+use Rattle.stage_law.specs.Streams.{Streams}
+use Rattle.polyphase_fir.specs.Placed.{leaf_of, all_minus}
+use Rattle.polyphase_fir.specs.Held.{AreTreeWidths, FitWindow, IsFormWidth}
+use Rattle.polyphase_fir.specs.Form.{form_of}
+
+-- the new net has the tree of these terms over the window's nodes, whose registers have the least widths for what they hold over the streams
+pub record AddsTree (streams : Streams) (old new : NetView) (window : List Node) (terms : List Term) (levels : ℕ) (registers : List Node) (root : Node) : Type 0 where
+  pub widths : List ℕ
+  pub least : AreTreeWidths streams (length window) terms levels widths
+  pub tree : IsTree old new (map (leaf_of window) terms) widths levels registers root
+
+-- the tree of these terms over the window may be built with so many levels
+pub record IsReady (streams : Streams) (cells : List Cell) (window : List Node) (terms : List Term) (levels : ℕ) : Type 0 where
+  pub leaves : All (λ t. IsLeaf cells (leaf_of window t)) terms
+  pub negatable : all_minus terms ≡ true → levels ≡ 0 → All (λ t. IsNegatable cells (leaf_of window t)) terms
+  pub fits : FitWindow streams (length window) terms
+  pub deep : length terms ≤ 2 ^ levels
+  pub low : levels ≤ 31
+  pub root : all_minus terms ≡ true → (width : ℕ) → IsFormWidth streams (form_of (length window) terms) width → width ≤ 127

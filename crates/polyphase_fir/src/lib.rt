@@ -1,0 +1,15 @@
+//! A filter between an Up and a Down as one window and a tree of sums for each phase.
+#![tactic(auto)]
+
+mod counts;
+mod cutting;
+mod forms;
+mod leaves;
+mod numbers;
+mod places;
+mod polyphase;
+mod stage;
+mod tree;
+mod widths;
+
+pub use polyphase::Polyphase;
