@@ -1,0 +1,11 @@
+pub mod Longest
+pub mod Pieces
+pub mod Numbers
+pub mod Readings
+pub mod Literals
+pub mod Marks
+pub mod Words
+pub mod Naming
+pub mod Lexing
+pub mod Ascii
+pub mod Plain
