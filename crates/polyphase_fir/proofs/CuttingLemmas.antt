@@ -76,22 +76,24 @@ AddsWindow-cut {old} {mid} {new} {node} {width} {nodes} streams from unused leas
     let same = n.grows.group in
     record {
       grows = Grows-trans n.grows w.grows;
-      taken = taken;
-      period = refl;
-      offset = refl;
-      carries = λ cut law x v s is r carried k.
-          let t = from.offset + k * from.period in
-          let mid_run = w.grows.extends.runs cut law x v r in
-          let fits : FitsWidth width (v t from.node.place) = subst (FitsWidth width) (sym (carried k)) (value_fits streams width least s is k) in
-          n.keeps cut law x v mid_run t fits ∙ carried k;
-      holds = w.holds;
-      width = width;
-      least = least;
-      narrow = record {
-        each = λ age found is.
+      window = record {
+        taken = taken;
+        period = refl;
+        offset = refl;
+        carries = λ cut law x v s is r carried k.
+            let t = from.offset + k * from.period in
+            let mid_run = w.grows.extends.runs cut law x v r in
+            let fits : FitsWidth width (v t from.node.place) = subst (FitsWidth width) (sym (carried k)) (value_fits streams width least s is k) in
+            n.keeps cut law x v mid_run t fits ∙ carried k;
+        holds = w.holds;
+      };
+      wide = record {
+        width = width;
+        least = least;
+        narrow = λ age found is.
             let counted : IsCounted mid.cells mid.group Window 0 = IsCounted-leaves mid.group Window 0 n.grows.extends n.names (λ number no. no) (subst (λ (g : ℕ). IsCounted old.cells g Window 0) (sym same) (no_names old.cells old.group unused)) in
             let register = w.registers 0 counted age found is in
-            let wide : (cell_at new.cells found.place).width ≡ (cell_at mid.cells node.place).width = ap (λ (c : Cell). c.width) (cell_at-is new.cells found.place register.cell register.there) ∙ register.wide in
+            let own_width : (cell_at new.cells found.place).width ≡ (cell_at mid.cells node.place).width = ap (λ (c : Cell). c.width) (cell_at-is new.cells found.place register.cell register.there) ∙ register.wide in
             let some = n.some in
             let most = n.most in
             (slice_get_within new.cells found.place register.cell register.there, omega arith, omega arith);

@@ -7,4 +7,6 @@ pub mod BoundLemmas
 pub mod SumLemmas
 pub mod PhaseBounds
 pub mod CuttingLemmas
+pub mod RootLemmas
+pub mod ShownLemmas
 pub mod RealisesLemmas

@@ -2,6 +2,7 @@
 use Rattle.std.specs.Prelude.{◌≡◌, ℕ, ◌+◌, ◌<◌, ◌≤◌, ℤ, pos, List, [], ◌∷◌, length, Some, slice_get}
 use Rattle.mr_values.specs.Sequence.{Sequence}
 use Rattle.mr_values.specs.Width.{FitsWidth}
+use Rattle.net_graph.specs.declared.cell.Cell.{Cell}
 use Rattle.net_graph.specs.declared.cell.Node.{Node}
 use Rattle.net_graph.specs.declared.cell.Stream.{Stream}
 use Rattle.net_graph.specs.declared.name.NameKind.TheVariants.{Window}
@@ -27,22 +28,25 @@ pub record IsNarrowed (old new : NetView) (from : Node) (width : ℕ) (to : Node
   pub named : SameNamed old.cells new.cells
   pub names : LeavesFree old.cells new.cells (λ name. ⊥)
 
--- each node stands in the net and has at most this width
-pub record AreNarrow (new : NetView) (width : ℕ) (nodes : List Node) : Type 0 where
-  pub each : (age : ℕ) (node : Node) → slice_get nodes age ≡ Some node → (node.place < length new.cells) × (1 ≤ (cell_at new.cells node.place).width) × ((cell_at new.cells node.place).width ≤ width)
+-- each node stands in the net and is at most as wide as the values of the streams need
+pub record IsWideWindow (streams : Streams) (cells : List Cell) (nodes : List Node) : Type 0 where
+  pub width : ℕ
+  pub least : IsFormWidth streams (pos 1 ∷ []) width
+  pub narrow : (age : ℕ) (node : Node) → slice_get nodes age ≡ Some node → (node.place < length cells) × (1 ≤ (cell_at cells node.place).width) × ((cell_at cells node.place).width ≤ width)
 
--- The new net has a stream that carries, at the ticks of the other, whichever of the streams the other carries, and a window of it, as
--- wide as the values of the streams need.
-pub record AddsWindow (streams : Streams) (old new : NetView) (from : Stream) (nodes : List Node) : Type 0 where
-  pub grows : Grows old new
+-- the nodes are a window of a stream that carries, at the ticks of this one, whichever of the streams this one carries
+pub record IsCutWindow (streams : Streams) (cells : List Cell) (from : Stream) (nodes : List Node) : Type 0 where
   pub taken : Stream
   pub period : taken.period ≡ from.period
   pub offset : taken.offset ≡ from.offset
-  pub carries : (cut : Cut) → IsCut cut → (inputs : ℕ → ℤ) (values : Values) (v : Sequence) → streams v → IsRun cut new.cells inputs values → Carries values from v → Carries values taken v
-  pub holds : (age : ℕ) (node : Node) → slice_get nodes age ≡ Some node → Holds new.cells taken age node
-  pub width : ℕ
-  pub least : IsFormWidth streams (pos 1 ∷ []) width
-  pub narrow : AreNarrow new width nodes
+  pub carries : (cut : Cut) → IsCut cut → (inputs : ℕ → ℤ) (values : Values) (v : Sequence) → streams v → IsRun cut cells inputs values → Carries values from v → Carries values taken v
+  pub holds : (age : ℕ) (node : Node) → slice_get nodes age ≡ Some node → Holds cells taken age node
+
+-- the new net has such a window, and so many window registers more
+pub record AddsWindow (streams : Streams) (old new : NetView) (from : Stream) (nodes : List Node) : Type 0 where
+  pub grows : Grows old new
+  pub window : IsCutWindow streams new.cells from nodes
+  pub wide : IsWideWindow streams new.cells nodes
   pub adders : SameAdders old.cells new.cells
   pub windows : windows_in old.group new.cells ≡ windows_in old.group old.cells + length nodes
   pub tables : tables_in old.group new.cells ≡ tables_in old.group old.cells

@@ -1,5 +1,5 @@
 -- What a parallel filter between an Up and a Down is, as a stage.
-use Rattle.std.specs.Prelude.{ℕ, zero, suc, ◌+◌, ◌<◌, ◌≤◌, ◌≡◌, ◌^◌, List, [], ◌∷◌, length, ℤ, pos}
+use Rattle.std.specs.Prelude.{ℕ, zero, suc, ◌+◌, ◌<◌, ◌≤◌, ◌≡◌, ◌^◌, List, [], ◌∷◌, length, ℤ, pos, ◌*◌, ◌%◌}
 use Rattle.mr_values.specs.declared.plan.Element.{Element}
 use Rattle.mr_values.specs.declared.plan.Element.TheVariants.{Up, Down, Filter}
 use Rattle.mr_values.specs.declared.plan.Form.TheVariants.{Parallel}
@@ -36,8 +36,8 @@ polyphase_facts taps up down = record {
   longest = ceil_div (length taps) up + 1;
 }
 
--- the streams of these periods are taken: one whole tick from value to value, and few enough ticks
+-- the streams of these periods are taken: the values that are given stand a whole number of ticks apart
 pub record TakesPeriod (up down period : ℕ) : Type 0 where
-  pub plain : up ≡ 1
   pub some : 1 ≤ period
   pub most : period < 2 ^ 31
+  pub whole : period * down % up ≡ 0

@@ -3,5 +3,7 @@ pub mod Form
 pub mod Held
 pub mod Sums
 pub mod Cutting
+pub mod Roots
+pub mod Order
 pub mod Facts
 pub mod Stage

@@ -1,16 +1,49 @@
 // The filter as a stage.
 
+ghost use Rattle.std.specs.Prelude.{◌≡◌, ℕ, ◌^◌, ◌<◌, ◌≤◌, length, slice_get, Some, IfOk};
+ghost use Rattle.net_graph.specs.declared.cell.Node.{Node};
+ghost use Rattle.net_graph.specs.Grow.{Extends};
 ghost use Rattle.polyphase_fir.specs.Facts.{TakesPeriod};
+ghost use Rattle.polyphase_fir.specs.Roots.{IsShown};
 ghost use Rattle.polyphase_fir.specs.Stage.{facts_of};
 
 use crate::cutting::cut_window;
-use crate::places::placed_terms;
+use crate::phases::shown_root;
 use crate::polyphase::Polyphase;
-use crate::tree::phase_tree;
+use crate::roots::phase_roots;
 use mr_values::Memory;
-use net_graph::{Net, Stream};
+use net_graph::{Net, Node, Stream};
 use stage_law::{Cost, Emitted, Kind, Ranges, Rates, Stage};
 use std::alloc::Global;
+
+impl Polyphase {
+    // The stream of the phases' roots, each at its ticks.
+    fn shown(
+        &self,
+        alloc: Global,
+        net: &mut Net,
+        roots: &[Node],
+        from: Stream,
+    ) -> Result<Stream, Memory>
+        requires data_group { 1 ≤ net.old.group }
+        requires within { (r : ℕ) (root : Node) → slice_get roots.now r ≡ Some root → root.place < length net.old.cells }
+        requires all { length roots.now ≡ self.now.rates.up }
+        requires takes { TakesPeriod self.now.rates.up self.now.rates.down from.period }
+        requires early { from.offset < 2 ^ 31 }
+        ensures ok { IfOk result (IsShown net.old net.new roots.now self.now.rates.up self.now.rates.down from self.now.levels) }
+        ensures extends { Extends net.old.cells net.new.cells }
+        ensures group { net.new.group ≡ net.old.group }
+    {
+        let period = from.period * u64::from(self.rates.down) / u64::from(self.rates.up);
+        let offset = from.offset + 1 + u64::from(self.levels);
+        let node = shown_root(alloc, net, roots, self.rates, period, offset)?;
+        Ok(Stream {
+            node,
+            period,
+            offset,
+        })
+    }
+}
 
 impl Stage for Polyphase {
     ghost facts = { facts_of };
@@ -45,21 +78,10 @@ impl Stage for Polyphase {
         ranges: &R,
     ) -> Result<Emitted, Memory> {
         let window = cut_window(alloc, net, from, self.depth, ranges)?;
-        let terms = placed_terms(alloc, self.taps.as_slice(), self.rates.up, 0)?;
-        let sum = phase_tree(
-            alloc,
-            net,
-            window.as_slice(),
-            terms.as_slice(),
-            self.levels,
-            ranges,
-        )?;
+        let roots = phase_roots(alloc, net, window.as_slice(), self, ranges)?;
+        let stream = self.shown(alloc, net, roots.as_slice(), from)?;
         Ok(Emitted {
-            stream: Stream {
-                node: sum.root,
-                period: from.period * u64::from(self.rates.down),
-                offset: from.offset + 1 + u64::from(self.levels),
-            },
+            stream,
             peaks: Vec::new(alloc),
         })
     }
