@@ -1,6 +1,6 @@
 -- The net of a plan, part by part.
 use Rattle.std.proofs.Common.{◌≡◌, ◌⊎◌, ℕ, zero, suc, ◌+◌, ◌-◌, ◌*◌, ◌<◌, ◌≤◌, ◌^◌, List, [], ◌∷◌, length, refl, sym, ◌∙◌, ap, arith, Option, Some, None, slice_get, inl, inr, subst, ℤ, pos, negsuc, ◌≤ℤ◌, IsSome, true, false, Bool}
-use Rattle.std.specs.List.{list_all}
+use Rattle.std.specs.Prelude.{unsigned_abs}
 use Rattle.std.proofs.lemmas.Int.{ints}
 use Rattle.std.proofs.lemmas.Nat.{pow_pos}
 use Rattle.std.proofs.lemmas.Bool.{cases_lt}
@@ -98,6 +98,10 @@ sample_fits width ticks z h =
     let some = pow_pos (width - 1) in
     record { low = l; high = omega (arith, ints, g, some) }
 
+small_fits : (z : ℤ) → unsigned_abs z ≤ 2 ^ 125 → FitsWidth 127 z
+small_fits (pos n) h = record { low = omega (arith, ints); high = omega (arith, ints, h) }
+small_fits (negsuc n) h = record { low = omega (arith, ints, h); high = omega (arith, ints) }
+
 -- ---- the whole
 
 module _ {n1 n2 n3 : NetView} {node : Node} {stream : Stream} {outputs : Outputs} (width ticks : ℕ) (elements : List Element) (wide : 1 ≤ width) (a : Adds empty n1 node width Input)
@@ -136,11 +140,13 @@ module _ {n1 n2 n3 : NetView} {node : Node} {stream : Stream} {outputs : Outputs
     closed = grown.closed (closed1 a);
     out_width = outs.width;
     least = outs.least;
+    narrow = outs.least.least 127 (omega arith) (small_fits (last_stream width ticks elements).low chained.low_small) (small_fits (last_stream width ticks elements).high chained.high_small);
     group = outs.group;
     register = outs.register;
     shown = outs.shown;
     shown_width = outs.shown_width;
     shown_control = outs.shown_control;
+    positive = subst (λ (p : ℕ). 1 ≤ p) chained.period chained.positive;
     values = shows;
     valid = subst (λ (p : ℕ). IsBitOf n3.cells (IsTickOf p (latency width ticks elements)) outputs.out_valid) chained.period
         (subst (λ (o : ℕ). IsBitOf n3.cells (IsTickOf stream.period (o + 1)) outputs.out_valid) chained.offset outs.bit);

@@ -33,7 +33,7 @@ use Rattle.span_ranges.specs.Span.{IsInSpan}
 use Rattle.chain_build.specs.declared.groups.Added.{Added}
 use Rattle.chain_build.specs.Built.{IsBuiltGroup, AreBuiltGroups}
 use Rattle.chain_build.specs.Added.{IsTaking, IsGroupAdded, IsGrown, AreNameless, CarriesChain, IsChained}
-use Rattle.chain_build.proofs.Walk.{IsWalk, factors_some, cancel, walk_rate, walk_next, walk_start, walk_most, walk_gain, period-whole}
+use Rattle.chain_build.proofs.Walk.{IsWalk, factors_some, cancel, walk_rate, walk_next, walk_start, walk_most, walk_gain, walk_end, period-whole}
 use Rattle.chain_build.proofs.Spans.{in_span-group, zero-group, HasRoom-span}
 use Rattle.chain_build.proofs.Grown.{IsGrown-refl, IsGrown-grows, IsGrown-trans, free_in}
 use Rattle.chain_build.proofs.GroupFacts.{IsFactsOf, facts-is}
@@ -218,11 +218,11 @@ module _ {width ticks : ℕ} {whole : List Element} {old net : NetView} {from la
   pub so_all : length items ≤ i → SoFar width ticks whole old net from last rest [] number
   so_all past = subst (λ (left : List GroupFacts). SoFar width ticks whole old net from last rest left number) (drop_all i items past) so
 
-size_least : (z : ℤ) (n : ℕ) → pos n ≤ℤ z → n ≤ size z
+pub size_least : (z : ℤ) (n : ℕ) → pos n ≤ℤ z → n ≤ size z
 size_least (pos m) n h = omega (arith, ints, h)
 size_least (negsuc m) n h = absurd (omega (arith, ints, h))
 
-size_most : (z : ℤ) (n : ℕ) → z ≤ℤ pos n → size z ≤ n
+pub size_most : (z : ℤ) (n : ℕ) → z ≤ℤ pos n → size z ≤ n
 size_most (pos m) n h = omega (arith, ints, h)
 size_most (negsuc m) n h = omega arith
 
@@ -244,6 +244,7 @@ pub SoFar-end : {width ticks : ℕ} {whole : List Element} {old net : NetView} {
 SoFar-end {width} {ticks} {whole} {old} {net} {from} {last} {rest} {number} so =
     let none : groups rest ≡ [] = none_left (groups rest) so.left_is in
     let stream_is : so.stream ≡ last_stream width ticks whole = sym (ap (λ (gs : List Group). after_all gs so.stream) none) ∙ so.end_is in
+    let small = walk_end (subst (λ (gs : List Group). IsWalk ticks so.first so.tally gs so.stream) none so.walk) in
     let done_is : (v : Sequence) → so.done v ≡ chain whole v = λ v. sym (ap (λ (gs : List Group). apply_groups gs (so.done v)) none) ∙ so.whole_is v ∙ sym (chain-groups whole v) in
     record {
       grown = so.grown;
@@ -253,6 +254,8 @@ SoFar-end {width} {ticks} {whole} {old} {net} {from} {last} {rest} {number} so =
       offset = so.offset ∙ ap (λ (s : Timed). s.offset) stream_is;
       positive = subst (λ (p : ℕ). 1 ≤ p) (sym so.period) so.walk.positive;
       early = let e = so.offset in let h = so.walk.early in omega arith;
+      low_small = subst (λ (s : Timed). unsigned_abs s.low ≤ 2 ^ 125) stream_is small.0;
+      high_small = subst (λ (s : Timed). unsigned_abs s.high ≤ 2 ^ 125) stream_is small.1;
       span = λ v h. subst (λ (w : Sequence). IsInSpan (last_stream width ticks whole).low (last_stream width ticks whole).high w) (done_is v) (subst (λ (s : Timed). IsInSpan s.low s.high (so.done v)) stream_is (so.inside v h));
       carries = λ inputs values v h run carried. subst (λ (w : Sequence). Carries values last w) (done_is v) (so.carries inputs values v h run carried);
       names = λ name other none. so.names name other (inr none);

@@ -126,3 +126,10 @@ walk_most {ticks} {first} {t} {g} {gs} {s} w =
 
 pub walk_gain : {ticks first : ℕ} {t : Tally} {g : Group} {gs : List Group} {s : Stream} → IsWalk ticks first t (g ∷ gs) s → gain g * max (unsigned_abs s.low) (unsigned_abs s.high) ≤ 2 ^ 125
 walk_gain {ticks} {first} {t} {g} {gs} {s} w = narrow_gain g gs (g ∷ gs) s.low s.high refl w.narrow
+
+pub walk_end : {ticks first : ℕ} {t : Tally} {s : Stream} → IsWalk ticks first t [] s → (unsigned_abs s.low ≤ 2 ^ 125) × (unsigned_abs s.high ≤ 2 ^ 125)
+walk_end {ticks} {first} {t} {s} w =
+    let peak : w.narrow.peak ≤ 2 ^ 125 = w.narrow.fits in
+    let l = w.narrow.within.low_within in
+    let h = w.narrow.within.high_within in
+    (omega arith, omega arith)

@@ -1,5 +1,5 @@
 -- What the groups of a plan add to a net, one after another.
-use Rattle.std.specs.Prelude.{◌≡◌, ℕ, ℤ, ◌-◌, ◌*◌, ◌%◌, ◌^◌, ◌≤◌, ◌<◌, false, List, length, Some, slice_get, unwrap_or}
+use Rattle.std.specs.Prelude.{◌≡◌, ℕ, ℤ, ◌-◌, ◌*◌, ◌%◌, ◌^◌, ◌≤◌, ◌<◌, false, List, length, Some, slice_get, unsigned_abs}
 use Rattle.mr_values.specs.declared.plan.Element.{Element}
 use Rattle.mr_values.specs.Sequence.{Sequence}
 use Rattle.mr_values.specs.Value.{chain}
@@ -71,6 +71,8 @@ pub record IsChained (width ticks : ℕ) (elements : List Element) (old new : Ne
   pub offset : to.offset ≡ (last_stream width ticks elements).offset
   pub positive : 1 ≤ to.period
   pub early : to.offset < 2 ^ 31
+  pub low_small : unsigned_abs (last_stream width ticks elements).low ≤ 2 ^ 125
+  pub high_small : unsigned_abs (last_stream width ticks elements).high ≤ 2 ^ 125
   pub span : (v : Sequence) → IsInSpan (input width ticks).low (input width ticks).high v → IsInSpan (last_stream width ticks elements).low (last_stream width ticks elements).high (chain elements v)
   pub carries : CarriesChain cut_all width ticks elements new.cells from to
   pub names : (name : Name) → (name.kind ≡ Control → ⊥) → name.group ≡ 0 → IsFree new.cells name

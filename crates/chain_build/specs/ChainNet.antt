@@ -1,5 +1,5 @@
 -- The net of a plan.
-use Rattle.std.specs.Prelude.{◌≡◌, true, ℕ, ◌+◌, ◌*◌, ℤ, pos, List, length, Some, slice_get}
+use Rattle.std.specs.Prelude.{◌≡◌, true, ℕ, ◌≤◌, ◌+◌, ◌*◌, ℤ, pos, List, length, Some, slice_get}
 use Rattle.mr_values.specs.declared.plan.Element.{Element}
 use Rattle.mr_values.specs.Sequence.{Sequence}
 use Rattle.mr_values.specs.Timing.{input, last_stream, latency}
@@ -44,10 +44,12 @@ pub record IsChainNet (width ticks : ℕ) (elements : List Element) (net : List 
   pub closed : IsControlClosed net
   pub out_width : ℕ
   pub least : IsLeastWidth (last_stream width ticks elements).low (last_stream width ticks elements).high out_width
+  pub narrow : out_width ≤ 127
   pub group : ℕ
   pub register : IsRegister net out_q.place group (name_of 0 Output 0) out_width
   pub shown : (cell_at net out_valid.place).name ≡ Some (name_of 0 Valid 0)
   pub shown_width : (cell_at net out_valid.place).width ≡ 1
   pub shown_control : IsOfControl net out_valid.place
+  pub positive : 1 ≤ (last_stream width ticks elements).period
   pub values : ShowsValues cut_all width ticks elements net out_q
   pub valid : IsBitOf net (IsTickOf (last_stream width ticks elements).period (latency width ticks elements)) out_valid

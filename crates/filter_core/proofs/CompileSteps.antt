@@ -54,7 +54,7 @@ built_of plan files bytes accepted found there short says first = record {
 
 -- a text and a report of a plan that is built
 pub outputs_of : (plan : List ℕ) (files : Files) (text lines : List ℕ) (found : OneTap) → IsBuiltFile plan files (plan_view found)
-    → ((taps : List ℤ) (form : Form) → IsOneTap taps found.count found.place found.shift → IsTextOf (Filter taps form ∷ []) found.width 2 1 text)
+    → ((taps : List ℤ) (form : Form) → IsOneTap taps found.count found.place found.shift → IsTextOf (Filter taps form ∷ []) found.width 1 2 1 text)
     → lines ≡ report_text (plan_view found) → AreOutputs plan files text lines
 outputs_of plan files text lines found built shows is =
     let first = built.built in
@@ -62,7 +62,7 @@ outputs_of plan files text lines found built shows is =
     record {
       first = plan_view found;
       built = built;
-      shows = subst (λ (elements : List Element). IsTextOf elements found.width 2 1 text) (sym first.elements) text_is;
+      shows = subst (λ (elements : List Element). IsTextOf elements found.width 1 2 1 text) (sym first.elements) text_is;
       lines = is;
     }
 

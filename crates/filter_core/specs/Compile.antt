@@ -42,7 +42,7 @@ pub record IsReadToEnd (plan : List ℕ) (old new : HostState) : Type 0 where
 pub record AreOutputs (plan : List ℕ) (files : Files) (text report : List ℕ) : Type 0 where
   pub first : FirstPlan
   pub built : IsBuiltFile plan files first
-  pub shows : IsTextOf built.plan.elements first.width 2 1 text
+  pub shows : IsTextOf built.plan.elements first.width 1 2 1 text
   pub lines : report ≡ report_text first
 
 -- TEXT and REPORT hold these bytes, and no other file has changed

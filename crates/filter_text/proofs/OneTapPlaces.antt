@@ -63,11 +63,11 @@ valid_by Other group number item h is = absurd (cc)
 valid_by Table group number item h is = absurd (cc)
 valid_by Output group number item h is = absurd (cc)
 
-output_name : (name : Option Name) (item : Option Item) → IsNamed name item → has_kind is_output_kind name ≡ true → name ≡ Some (name_of 0 Output 0)
+pub output_name : (name : Option Name) (item : Option Item) → IsNamed name item → has_kind is_output_kind name ≡ true → name ≡ Some (name_of 0 Output 0)
 output_name None item h is = absurd (cc)
 output_name (Some name) item h is = ap Some (output_by name.kind name.group name.number item h is)
 
-valid_name : (name : Option Name) (item : Option Item) → IsNamed name item → has_kind is_valid_kind name ≡ true → name ≡ Some (name_of 0 Valid 0)
+pub valid_name : (name : Option Name) (item : Option Item) → IsNamed name item → has_kind is_valid_kind name ≡ true → name ≡ Some (name_of 0 Valid 0)
 valid_name None item h is = absurd (cc)
 valid_name (Some name) item h is = ap Some (valid_by name.kind name.group name.number item h is)
 

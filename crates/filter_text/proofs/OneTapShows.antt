@@ -5,6 +5,7 @@ use Rattle.std.proofs.lemmas.Nat.{pow_pos}
 use Rattle.std.proofs.lemmas.List.{length-map}
 use Rattle.mr_values.specs.Width.{FitsWidth, signed, set_bit}
 use Rattle.mr_values.specs.Timing.{ceil_div}
+use Rattle.mr_values.specs.Sequence.{phase}
 use Rattle.mr_values.specs.Value.{val}
 use Rattle.mr_values.specs.declared.plan.Element.TheVariants.{Filter}
 use Rattle.mr_values.specs.declared.plan.Form.{Form}
@@ -24,7 +25,7 @@ use Rattle.verilog_text.specs.Order.{IsSameButPlaces}
 use Rattle.net_module.specs.Written.{IsWritable, HasNode, written_module, input_place, output_place, valid_place, has_kind, is_output_kind, is_valid_kind}
 use Rattle.net_module.specs.Steps.{HasNoReset, tick_data, ticks_in, samples_of, width_in, RunsAfterReset, ShowsAs, pair_of, chosen_list, outputs_from as shown_from}
 use Rattle.chain_build.specs.OneTap.{IsOneTap, BeginsWith, IsOneTapNet, EachFits as EachInputFits}
-use Rattle.filter_text.specs.Headline.{outputs_from, outputs_within, samples_in, IsRunFrom, ShowsChain}
+use Rattle.filter_text.specs.Headline.{outputs_from, outputs_within, IsRunFrom, ShowsChain}
 use Rattle.module_laws.proofs.Places.{same_shapes, same_circuits, same_ports}
 use Rattle.filter_text.proofs.OneTapPlaces.{output_is, valid_is, input_width}
 
@@ -45,6 +46,14 @@ read_samples : (width : ℕ) (xs : List ℕ) (k : ℕ) → k < length xs → sli
 read_samples width [] k less = absurd (omega arith)
 read_samples width (x ∷ xs) zero less = refl
 read_samples width (x ∷ xs) (suc k) less = read_samples width xs k (omega arith)
+
+-- all samples of a run
+abbrev plain_samples : ℕ → List Cycle → List ℤ
+plain_samples width cycles = map (signed width) (tick_data cycles)
+
+phase_one : (xs : List ℤ) → phase 1 0 xs ≡ xs
+phase_one [] = refl
+phase_one (x ∷ xs) = ap (λ (ys : List ℤ). x ∷ ys) (phase_one xs)
 
 -- ---- outputs
 
@@ -78,14 +87,14 @@ module _ {width count place shift : ℕ} {cells : List Cell} {out_q out_valid : 
   samples_fit : (after : List Cycle) → EachFits width after → EachInputFits width (samples_of width after)
   samples_fit after fit t = (signed_is width (slice_index (tick_data after) t) wide (data_fits width after fit t)).0
 
-  begins : (after : List Cycle) → BeginsWith (samples_of width after) (samples_in width after)
+  begins : (after : List Cycle) → BeginsWith (samples_of width after) (plain_samples width after)
   begins after k less = read_samples width (tick_data after) k (subst (λ (n : ℕ). k < n) (length-map (tick_data after) (signed width)) less)
 
   outputs_are : (after : List Cycle) → EachFits width after → (worth : Worth) → IsRun cut_all cells (samples_of width after) worth
-      → shown_from worth (valid_place cells) (output_place cells) 0 (ticks_in after) ≡ outputs_within 2 1 (λ n. val (Filter taps form ∷ []) (samples_in width after) (pos n)) (ticks_in after)
+      → shown_from worth (valid_place cells) (output_place cells) 0 (ticks_in after) ≡ outputs_within 2 1 (λ n. val (Filter taps form ∷ []) (plain_samples width after) (pos n)) (ticks_in after)
   outputs_are after fit worth run =
       let ticks = ticks_in after in
-      let xs = samples_in width after in
+      let xs = plain_samples width after in
       let inputs = samples_of width after in
       let value : ℕ → ℤ = λ n. val (Filter taps form ∷ []) xs (pos n) in
       let many : length xs ≡ ticks = length-map (tick_data after) (signed width) in
@@ -108,7 +117,7 @@ module _ {width count place shift : ℕ} {cells : List Cell} {out_q out_valid : 
       fit = subst (λ (w : ℕ). EachFits w after) (sym (input_width net)) r.fit;
     }
 
-    pub one_tap_shows : ShowsChain (Filter taps form ∷ []) width 2 1 d
+    pub one_tap_shows : ShowsChain (Filter taps form ∷ []) width 1 2 1 d
     one_tap_shows = record {
       parts = λ content before after reset settled r.
           rw (same_shapes d (written_module cells) same, same_ports d (written_module cells) same) (shows.parts content before after reset settled (of_written content before after reset settled r));
@@ -116,5 +125,6 @@ module _ {width count place shift : ℕ} {cells : List Cell} {out_q out_valid : 
           let run = some_run cut_all IsCut-all cells (samples_of (width_in cells) after) net.netlist in
           let narrow = subst (λ (w : ℕ). IsRun cut_all cells (samples_of w after) run.0) (input_width net) run.1 in
           rw (same_shapes d (written_module cells) same, same_ports d (written_module cells) same)
-          (shows.shows content before after reset settled (of_written content before after reset settled r) run.0 run.1 ∙ outputs_are after r.fit run.0 narrow);
+          (shows.shows content before after reset settled (of_written content before after reset settled r) run.0 run.1 ∙ outputs_are after r.fit run.0 narrow
+          ∙ ap (λ (xs : List ℤ). outputs_within 2 1 (λ n. val (Filter taps form ∷ []) xs (pos n)) (ticks_in after)) (sym (phase_one (plain_samples width after))));
     }

@@ -2,6 +2,7 @@
 use Rattle.std.specs.Prelude.{◌≡◌, ℕ, zero, suc, ◌+◌, ◌-◌, ◌*◌, ◌≤◌, true, List, [], ◌∷◌, ◌++◌, length, map, drop, ℤ, pos}
 use Rattle.mr_values.specs.Width.{signed}
 use Rattle.mr_values.specs.Timing.{ceil_div}
+use Rattle.mr_values.specs.Sequence.{phase}
 use Rattle.mr_values.specs.Value.{val}
 use Rattle.mr_values.specs.declared.plan.Element.{Element}
 use Rattle.verilog_tree.specs.Checks.{Passes}
@@ -22,9 +23,9 @@ outputs_from latency period value n (suc count) = (latency + n * period, value n
 abbrev pub outputs_within : ℕ → ℕ → (ℕ → ℤ) → ℕ → List (ℕ × ℤ)
 outputs_within latency period value ticks = outputs_from latency period value 0 (ceil_div (ticks - latency) period)
 
--- the samples of a run with one sample a tick: `in_data` at its ticks, read as signed
-abbrev pub samples_in : ℕ → List Cycle → List ℤ
-samples_in width cycles = map (signed width) (tick_data cycles)
+-- the samples of a run with one sample in so many ticks: `in_data` at the ticks 0, ticks, 2 * ticks, .., read as signed
+abbrev pub samples_in : ℕ → ℕ → List Cycle → List ℤ
+samples_in width ticks cycles = phase ticks 0 (map (signed width) (tick_data cycles))
 
 -- the cycles of a run, of which this is the last reset cycle, and the settled values of each
 pub record IsRunFrom (d : Design) (width : ℕ) (content : Values) (before after : List Cycle) (reset : Cycle) (settled : List Values) : Type 0 where
@@ -43,17 +44,17 @@ events_after d before after settled = events_of (shapes_of d) (ports_of d) after
 -- For every content of the registers and every list of cycles with a reset, whatever the samples and clock enables: what is shown after
 -- the last reset cycle is exactly value n of the chain over the samples since then, at the tick latency + n * period, for each n whose
 -- tick has come, and nothing at any other tick.
-pub record ShowsChain (elements : List Element) (width latency period : ℕ) (d : Design) : Type 0 where
+pub record ShowsChain (elements : List Element) (width ticks latency period : ℕ) (d : Design) : Type 0 where
   pub parts : (content : Values) (before after : List Cycle) (reset : Cycle) (settled : List Values) → IsRunFrom d width content before after reset settled
       → events_of (shapes_of d) (ports_of d) (before ++ reset ∷ after) settled 0 0 ≡ events_before d before settled ++ events_after d before after settled
   pub shows : (content : Values) (before after : List Cycle) (reset : Cycle) (settled : List Values) → IsRunFrom d width content before after reset settled
-      → map pair_of (events_after d before after settled) ≡ outputs_within latency period (λ n. val elements (samples_in width after) (pos n)) (ticks_in after)
+      → map pair_of (events_after d before after settled) ≡ outputs_within latency period (λ n. val elements (samples_in width ticks after) (pos n)) (ticks_in after)
 
 -- the bytes read as one module, it passes every check, from any content it runs over any cycles, and it shows the chain
-pub record IsTextOf (elements : List Element) (width latency period : ℕ) (bytes : List ℕ) : Type 0 where
+pub record IsTextOf (elements : List Element) (width ticks latency period : ℕ) (bytes : List ℕ) : Type 0 where
   pub design : Design
   pub reads : Reads bytes design
   pub only : (other : Design) → Reads bytes other → other ≡ design
   pub passes : Passes design
   pub runs : HasRuns design
-  pub shows : ShowsChain elements width latency period design
+  pub shows : ShowsChain elements width ticks latency period design

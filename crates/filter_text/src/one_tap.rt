@@ -16,7 +16,7 @@ use verilog_write::text_of;
 /// stands at the ticks 2, 3, 4, .. Fails only for want of memory.
 pub fn one_tap_text(alloc: Global, plan: OneTap) -> Result<Vec<u8>, Memory>
     ensures { IfOk result (λ text. (taps : List ℤ) (form : Form) → IsOneTap taps plan.count plan.place plan.shift
-        → IsTextOf (Filter taps form ∷ []) plan.width 2 1 text.items) }
+        → IsTextOf (Filter taps form ∷ []) plan.width 1 2 1 text.items) }
 {
     let built = build_one_tap(alloc, plan)?;
     nets_are_small(&built.net);
