@@ -7,7 +7,8 @@ use Rattle.std.proofs.lemmas.Bool.{cases_lt}
 use Rattle.mr_values.specs.declared.plan.Element.{Element}
 use Rattle.mr_values.specs.declared.plan.Element.TheVariants.{Up, Down, Filter, CicDown, CicUp, Round}
 use Rattle.mr_values.specs.Sequence.{Sequence}
-use Rattle.mr_values.specs.Timing.{groups, input, last_stream, latency}
+use Rattle.mr_values.specs.declared.plan.Form.TheVariants.{Parallel, Symmetric, HalfBand, Folded, Distributed}
+use Rattle.mr_values.specs.Timing.{Group, Fir, DownCic, UpCic, Rounding, join_filter, groups, input, last_stream, latency}
 use Rattle.mr_values.specs.Value.{chain}
 use Rattle.mr_values.specs.Width.{FitsWidth, IsLeastWidth}
 use Rattle.net_graph.specs.declared.cell.Cell.{Cell}
@@ -37,11 +38,25 @@ use Rattle.chain_build.proofs.Grown.{IsGrown-trans}
 
 -- ---- which plans are built
 
+built-filter : (taps : List ℤ) (gs : List Group) → AreBuiltGroups gs → AreBuiltGroups (join_filter taps Parallel gs)
+built-filter taps [] h = ((refl, refl), tt)
+built-filter taps (Fir None None down ∷ gs) h = ((refl, refl), h.1)
+built-filter taps (Fir None (Some f) down ∷ gs) h = ((refl, refl), h)
+built-filter taps (Fir (Some u) None down ∷ gs) h = ((refl, refl), h)
+built-filter taps (Fir (Some u) (Some f) down ∷ gs) h = ((refl, refl), h)
+built-filter taps (DownCic factor stages delay ∷ gs) h = ((refl, refl), h)
+built-filter taps (UpCic factor stages delay ∷ gs) h = ((refl, refl), h)
+built-filter taps (Rounding shift mode ∷ gs) h = ((refl, refl), h)
+
 pub built-groups : (es : List Element) → are_built es ≡ true → AreBuiltGroups (groups es)
 built-groups [] h = tt
 built-groups (Up factor ∷ es) h = absurd (cc)
-built-groups (Down factor ∷ es) h = absurd (cc)
-built-groups (Filter taps form ∷ es) h = absurd (cc)
+built-groups (Down factor ∷ es) h = ((refl, refl), built-groups es h)
+built-groups (Filter taps Parallel ∷ es) h = built-filter taps (groups es) (built-groups es h)
+built-groups (Filter taps Symmetric ∷ es) h = absurd (cc)
+built-groups (Filter taps HalfBand ∷ es) h = absurd (cc)
+built-groups (Filter taps (Folded slots) ∷ es) h = absurd (cc)
+built-groups (Filter taps (Distributed group) ∷ es) h = absurd (cc)
 built-groups (CicDown factor stages delay ∷ es) h = absurd (cc)
 built-groups (CicUp factor stages delay ∷ es) h = absurd (cc)
 built-groups (Round shift mode ∷ es) h = (tt, built-groups es h)

@@ -1,11 +1,20 @@
 -- A group as a stage does to a sequence what its elements do.
-use Rattle.std.proofs.Common.{◌≡◌, ℕ, suc, ◌+◌, ◌*◌, ◌≤◌, refl, sym, ◌∙◌, ap, arith, subst, List, [], ◌∷◌}
+use Rattle.std.proofs.Common.{◌≡◌, ℕ, suc, ◌+◌, ◌*◌, ◌≤◌, refl, sym, ◌∙◌, ap, arith, subst, List, [], ◌∷◌, ℤ, pos, ◌+ℤ◌, ◌-ℤ◌, ◌*ℤ◌, Option, None, Some}
+use Rattle.std.specs.Prelude.{unsigned_abs, unwrap_or}
+use Rattle.std.proofs.Math.Path.{fun_ext}
+use Rattle.std.proofs.lemmas.Int.{ints}
+use Rattle.mr_values.specs.declared.plan.Form.{Form}
+use Rattle.mr_values.specs.declared.plan.Form.TheVariants.{Parallel}
+use Rattle.mr_values.proofs.Plain.{up-one}
+use Rattle.polyphase_fir.specs.Facts.{polyphase_facts}
+use Rattle.stage_law.specs.Streams.{magnitudes}
+use Rattle.chain_build.specs.Built.{IsBuiltGroup}
 use Rattle.mr_values.specs.declared.plan.Mode.{Mode}
-use Rattle.mr_values.specs.Sequence.{Sequence}
+use Rattle.mr_values.specs.Sequence.{Sequence, up, down, filter}
 use Rattle.mr_values.specs.Value.{chain}
-use Rattle.mr_values.specs.Timing.{Group, Fir, DownCic, UpCic, Rounding, Stream, up_factor, down_factor, group_delay}
-use Rattle.plan_check.specs.Amounts.{gain}
-use Rattle.plan_laws.proofs.Reach.{apply_group}
+use Rattle.mr_values.specs.Timing.{Group, Fir, DownCic, UpCic, Rounding, Stream, up_factor, down_factor, group_delay, form_delay, form_of, taps_of}
+use Rattle.plan_check.specs.Amounts.{magnitude}
+use Rattle.plan_laws.proofs.Reach.{apply_group, optional, filter_by}
 use Rattle.rounding_stage.specs.Rounding.{rounding_facts}
 use Rattle.stage_law.specs.Facts.{StageFacts}
 use Rattle.chain_build.specs.Added.{HasFacts}
@@ -19,8 +28,46 @@ pub record IsFactsOf (g : Group) (facts : StageFacts) : Type 0 where
 rounding-is : (shift : ℕ) (mode : Mode) → IsFactsOf (Rounding shift mode) (rounding_facts shift mode)
 rounding-is shift mode = record { does = λ v. refl; up = refl; down = refl; delay = λ s. refl }
 
-pub facts-is : (g : Group) (facts : StageFacts) → HasFacts g facts → IsFactsOf g facts
-facts-is (Fir u f d) facts h = absurd h
-facts-is (DownCic factor stages delay) facts h = absurd h
-facts-is (UpCic factor stages delay) facts h = absurd h
-facts-is (Rounding shift mode) facts h = subst (IsFactsOf (Rounding shift mode)) (sym h) (rounding-is shift mode)
+-- ---- a group without an Up, a Filter or a Down
+
+up-optional : (u : Option ℕ) (v : Sequence) → up (unwrap_or u 1) v ≡ optional up u v
+up-optional None v = up-one v
+up-optional (Some factor) v = refl
+
+filter-one : (v : Sequence) → filter (pos 1 ∷ []) v ≡ v
+filter-one v = fun_ext (λ n. let at : n -ℤ pos 0 ≡ n = omega (arith, ints) in rw at (one_term (v n)))
+  where
+    one_term : (z : ℤ) → pos 1 *ℤ z +ℤ pos 0 ≡ z
+    one_term z = omega (arith, ints)
+
+filter-optional : (f : Option (List ℤ × Form)) (v : Sequence) → filter (taps_of f) v ≡ optional filter_by f v
+filter-optional None v = filter-one v
+filter-optional (Some f) v = refl
+
+down-one : (v : Sequence) → down 1 v ≡ v
+down-one v = fun_ext (λ n. ap v (omega (arith, ints)))
+
+down-optional : (d : Option ℕ) (v : Sequence) → down (unwrap_or d 1) v ≡ optional down d v
+down-optional None v = down-one v
+down-optional (Some factor) v = refl
+
+fir-is : (u : Option ℕ) (f : Option (List ℤ × Form)) (d : Option ℕ) → form_of f ≡ Parallel → IsFactsOf (Fir u f d) (polyphase_facts (taps_of f) (unwrap_or u 1) (unwrap_or d 1))
+fir-is u f d plain = record {
+  does = λ v.
+      ap (λ (x : Sequence). down (unwrap_or d 1) (filter (taps_of f) x)) (up-optional u v)
+      ∙ ap (down (unwrap_or d 1)) (filter-optional f (optional up u v))
+      ∙ down-optional d (optional filter_by f (optional up u v));
+  up = refl;
+  down = refl;
+  delay = λ s. ap (λ (form : Form). form_delay form (unwrap_or u 1) (taps_of f) s) (sym plain);
+}
+
+pub magnitudes-is : (taps : List ℤ) → magnitudes taps ≡ magnitude taps
+magnitudes-is [] = refl
+magnitudes-is (c ∷ cs) = ap (λ (n : ℕ). unsigned_abs c + n) (magnitudes-is cs)
+
+pub facts-is : (g : Group) (facts : StageFacts) → IsBuiltGroup g → HasFacts g facts → IsFactsOf g facts
+facts-is (Fir u f d) facts is h = subst (IsFactsOf (Fir u f d)) (sym h) (fir-is u f d is.1)
+facts-is (DownCic factor stages delay) facts is h = absurd h
+facts-is (UpCic factor stages delay) facts is h = absurd h
+facts-is (Rounding shift mode) facts is h = subst (IsFactsOf (Rounding shift mode)) (sym h) (rounding-is shift mode)

@@ -148,7 +148,7 @@ module _ {width ticks : ℕ} {whole : List Element} {old net : NetView} {from la
       let adds : IsGroupAdded g (IsInSpan fact.span_lo fact.span_hi) mid new last added =
       subst (λ (z : ℤ). IsGroupAdded g (IsInSpan fact.span_lo z) mid new last added) hi_is (subst (λ (z : ℤ). IsGroupAdded g (IsInSpan z hi) mid new last added) lo_is adds_at) in
       let r = adds.realises in
-      let f = facts-is g adds.facts adds.has_facts in
+      let f = facts-is g adds.facts is_built_head adds.has_facts in
       let same_cells : mid.cells ≡ net.cells = ap (λ (n : NetView). n.cells) is in
       let same_group : mid.group ≡ number = ap (λ (n : NetView). n.group) is in
       let grown : IsGrown net.cells new.cells = subst (λ (cells : List Cell). IsGrown cells new.cells) same_cells (IsGrown-grows r.grows) in

@@ -1,9 +1,9 @@
 -- What the groups of a plan add to a net, one after another.
-use Rattle.std.specs.Prelude.{◌≡◌, ℕ, ℤ, ◌-◌, ◌*◌, ◌%◌, ◌^◌, ◌≤◌, ◌<◌, false, List, length, Some, slice_get, unsigned_abs}
+use Rattle.std.specs.Prelude.{◌≡◌, ℕ, ℤ, ◌-◌, ◌*◌, ◌%◌, ◌^◌, ◌≤◌, ◌<◌, false, List, length, Some, slice_get, unsigned_abs, unwrap_or}
 use Rattle.mr_values.specs.declared.plan.Element.{Element}
 use Rattle.mr_values.specs.Sequence.{Sequence}
 use Rattle.mr_values.specs.Value.{chain}
-use Rattle.mr_values.specs.Timing.{Group, Fir, DownCic, UpCic, Rounding, up_factor, down_factor, input, last_stream}
+use Rattle.mr_values.specs.Timing.{Group, Fir, DownCic, UpCic, Rounding, taps_of, up_factor, down_factor, input, last_stream}
 use Rattle.net_graph.specs.declared.cell.Cell.{Cell}
 use Rattle.net_graph.specs.declared.cell.Stream.{Stream}
 use Rattle.net_graph.specs.declared.name.Name.{Name}
@@ -16,6 +16,7 @@ use Rattle.net_graph.specs.Name.{is_input}
 use Rattle.net_graph.specs.Run.{Values, IsRun}
 use Rattle.net_graph.specs.WellFormed.{IsBound, IsFree}
 use Rattle.pipeline_balance.specs.Gate.{Carries}
+use Rattle.polyphase_fir.specs.Facts.{polyphase_facts}
 use Rattle.rounding_stage.specs.Rounding.{rounding_facts}
 use Rattle.span_ranges.specs.Span.{IsInSpan}
 use Rattle.stage_law.specs.Facts.{StageFacts}
@@ -25,7 +26,7 @@ use Rattle.chain_build.specs.declared.groups.Added.{Added}
 
 -- what a group is as a stage
 abbrev pub HasFacts : Group → StageFacts → Type 0
-HasFacts (Fir up filter down) facts = ⊥
+HasFacts (Fir up filter down) facts = facts ≡ polyphase_facts (taps_of filter) (unwrap_or up 1) (unwrap_or down 1)
 HasFacts (DownCic factor stages delay) facts = ⊥
 HasFacts (UpCic factor stages delay) facts = ⊥
 HasFacts (Rounding shift mode) facts = facts ≡ rounding_facts shift mode

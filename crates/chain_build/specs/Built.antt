@@ -1,15 +1,24 @@
 -- Which plans are built.
-use Rattle.std.specs.Prelude.{Bool, true, false, List, [], ◌∷◌}
+use Rattle.std.specs.Prelude.{◌≡◌, Bool, true, false, List, [], ◌∷◌, None}
 use Rattle.std.specs.List.{list_all}
 use Rattle.mr_values.specs.declared.plan.Element.{Element}
 use Rattle.mr_values.specs.declared.plan.Element.TheVariants.{Up, Down, Filter, CicDown, CicUp, Round}
-use Rattle.mr_values.specs.Timing.{Group, Fir, DownCic, UpCic, Rounding}
+use Rattle.mr_values.specs.declared.plan.Form.{Form}
+use Rattle.mr_values.specs.declared.plan.Form.TheVariants.{Parallel, Symmetric, HalfBand, Folded, Distributed}
+use Rattle.mr_values.specs.Timing.{Group, Fir, DownCic, UpCic, Rounding, form_of}
+
+abbrev pub is_parallel : Form → Bool
+is_parallel Parallel = true
+is_parallel Symmetric = false
+is_parallel HalfBand = false
+is_parallel (Folded slots) = false
+is_parallel (Distributed group) = false
 
 -- an element that is built
 abbrev pub is_built : Element → Bool
 is_built (Up factor) = false
-is_built (Down factor) = false
-is_built (Filter taps form) = false
+is_built (Down factor) = true
+is_built (Filter taps form) = is_parallel form
 is_built (CicDown factor stages delay) = false
 is_built (CicUp factor stages delay) = false
 is_built (Round shift mode) = true
@@ -20,7 +29,7 @@ are_built elements = list_all is_built elements
 
 -- a group of elements that are built
 abbrev pub IsBuiltGroup : Group → Type 0
-IsBuiltGroup (Fir up filter down) = ⊥
+IsBuiltGroup (Fir up filter down) = (up ≡ None) × (form_of filter ≡ Parallel)
 IsBuiltGroup (DownCic factor stages delay) = ⊥
 IsBuiltGroup (UpCic factor stages delay) = ⊥
 IsBuiltGroup (Rounding shift mode) = Unit {0}

@@ -3,12 +3,12 @@
 ghost use Rattle.std.specs.Prelude.{◌≡◌, pos, ◌≤ℤ◌, true, IfOk};
 ghost use Rattle.mr_values.specs.Value.{size};
 ghost use Rattle.plan_check.specs.Accepted.{IsAccepted, AreFacts};
-ghost use Rattle.chain_build.specs.Built.{are_built, is_built};
+ghost use Rattle.chain_build.specs.Built.{are_built, is_built, is_parallel};
 ghost use Rattle.chain_build.specs.ChainNet.{IsChainNet};
 
 use crate::groups::add_groups;
 use crate::output::add_outputs;
-use mr_values::{Element, Memory, Plan};
+use mr_values::{Element, Form, Memory, Plan};
 use net_graph::{Net, Netlist, Node, Stream};
 use plan_check::Facts;
 use std::alloc::Global;
@@ -21,11 +21,22 @@ pub struct Built {
     pub out_valid: Node,
 }
 
+// Whether the form is that of one tree for each phase.
+fn is_parallel(form: Form) -> bool
+    ensures { result ≡ is_parallel form }
+{
+    matches!(form, Form::Parallel)
+}
+
 // Whether the element is built.
 fn can_add(element: &Element) -> bool
     ensures { result ≡ is_built element.now }
 {
-    matches!(element, Element::Round { .. })
+    match element {
+        Element::Filter { form, .. } => is_parallel(*form),
+        Element::Down { .. } | Element::Round { .. } => true,
+        Element::Up { .. } | Element::CicDown { .. } | Element::CicUp { .. } => false,
+    }
 }
 
 /// Whether `build` takes the elements of a plan.

@@ -1,12 +1,13 @@
 // The groups of a plan, one after another.
 
 ghost use Rattle.std.specs.Prelude.{◌≡◌, ◌≤◌, ◌<◌, ◌^◌, pos, ◌≤ℤ◌, length, IfOk};
+ghost use Rattle.std.specs.Option.{option_map};
 ghost use Rattle.mr_values.specs.Value.{size};
-ghost use Rattle.mr_values.specs.Timing.{groups};
+ghost use Rattle.mr_values.specs.Timing.{groups, taps_of};
 ghost use Rattle.net_graph.specs.Grow.{Extends};
 ghost use Rattle.plan_check.specs.Accepted.{IsAccepted, AreFacts};
 ghost use Rattle.plan_check.specs.Amounts.{gain};
-ghost use Rattle.plan_check.specs.Groups.{group_of, IsGroup};
+ghost use Rattle.plan_check.specs.Groups.{group_of, filter_of, IsGroup};
 ghost use Rattle.span_ranges.specs.Span.{IsInSpan};
 ghost use Rattle.stage_law.specs.Realises.{Realises, IsUnused};
 ghost use Rattle.stage_law.specs.Streams.{HasRoom};
@@ -15,10 +16,11 @@ ghost use Rattle.chain_build.specs.Added.{IsTaking, IsGroupAdded, AreNameless, I
 
 use mr_values::{Memory, Plan};
 use net_graph::{Net, Stream};
-use plan_check::{Facts, GroupFacts, PlanGroup, split_group};
+use plan_check::{Facts, FirFilter, GroupFacts, PlanGroup, split_group};
+use polyphase_fir::Polyphase;
 use rounding_stage::Rounding;
 use span_ranges::SpanRanges;
-use stage_law::{Cost, Emitted, Stage};
+use stage_law::{Cost, Emitted, Rates, Stage};
 use std::alloc::Global;
 
 /// What a group added.
@@ -61,6 +63,16 @@ fn emit_stage<S: Stage>(
     Ok(Added { emitted, cost })
 }
 
+// The taps of a group's filter, one tap of 1 where there is none.
+fn filter_taps<'a>(filter: &Option<FirFilter<'a>>) -> &'a [i64]
+    ensures { result.now ≡ taps_of (option_map filter_of filter.now) }
+{
+    match filter {
+        Some(filter) => filter.taps,
+        None => &[1],
+    }
+}
+
 // Adds the nodes of a group.
 fn add_group(
     alloc: Global,
@@ -87,9 +99,16 @@ fn add_group(
             let added = emit_stage(alloc, net, from, &stage, ranges)?;
             Ok(added)
         }
-        PlanGroup::Fir { .. } | PlanGroup::CicDown { .. } | PlanGroup::CicUp { .. } => {
-            unreachable!()
+        PlanGroup::Fir { filter, .. } => {
+            let rates = Rates {
+                up: group.up(),
+                down: group.down(),
+            };
+            let stage = Polyphase::new(alloc, filter_taps(filter), rates)?;
+            let added = emit_stage(alloc, net, from, &stage, ranges)?;
+            Ok(added)
         }
+        PlanGroup::CicDown { .. } | PlanGroup::CicUp { .. } => unreachable!(),
     }
 }
 
