@@ -8,7 +8,7 @@ use Rattle.verilog_tree.specs.Checks.{or_else, with_declaration, in_text_order, 
 use Rattle.verilog_text.specs.Order.{unplaced}
 
 -- each element has a property
-abbrev Every : {A : Type 0} → (A → Type 0) → List A → Type 0
+abbrev pub Every : {A : Type 0} → (A → Type 0) → List A → Type 0
 Every has [] = Unit {0}
 Every has (x ∷ xs) = has x × Every has xs
 
@@ -39,14 +39,14 @@ module _ (P : Signal → Type 0) where
   to_order [] all = tt
   to_order (s ∷ ss) all = with_one s (in_text_order ss) all.0 (to_order ss all.1)
 
-  from_order : (ss : List Signal) → Every P (in_text_order ss) → Every P ss
+  pub from_order : (ss : List Signal) → Every P (in_text_order ss) → Every P ss
   from_order [] all = tt
   from_order (s ∷ ss) all = let r = without_one s (in_text_order ss) all in (r.0, from_order ss r.1)
 
 -- ---- a search that finds nothing
 
 module _ {A : Type 0} (test : A → Bool) where
-  nothing_found : (xs : List A) → find test xs ≡ None → Every (λ x. test x ≡ false) xs
+  pub nothing_found : (xs : List A) → find test xs ≡ None → Every (λ x. test x ≡ false) xs
   nothing_found [] is = tt
   nothing_found (x ∷ xs) is = by (test x) refl is (nothing_found xs)
     where

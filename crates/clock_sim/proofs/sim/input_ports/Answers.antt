@@ -1,0 +1,19 @@
+use Rattle.std.proofs.Common.{◌≡◌, ◌<◌, ◌≤◌, ℕ, length, sym, subst}
+use Rattle.verilog_tree.specs.View.{design_view}
+use Rattle.clock_sim.proofs.Formed.{widths_fit}
+use Rattle.clock_sim.proofs.PortPlaces.{rst_inside, ce_inside, in_data_inside}
+use Rattle.clock_sim.proofs.sim.input_ports.Goals as goal
+
+pub returns : goal.returns
+returns c =
+    let d = design_view c.args.design.now in
+    record {
+      rst = c.name_number.ensures;
+      ce = c.name_number-2.ensures;
+      in_data = c.name_number-3.ensures;
+      rst_inside = subst (λ (n : ℕ). n < length d.names) (sym c.name_number.ensures) (rst_inside d c.requires.passes);
+      ce_inside = subst (λ (n : ℕ). n < length d.names) (sym c.name_number-2.ensures) (ce_inside d c.requires.passes);
+      in_data_inside = subst (λ (n : ℕ). n < length d.names) (sym c.name_number-3.ensures) (in_data_inside d c.requires.passes);
+      rst_width = (widths_fit d c.requires.formed c.requires.passes c.name_number.result).least;
+      ce_width = (widths_fit d c.requires.formed c.requires.passes c.name_number-2.result).least;
+    }

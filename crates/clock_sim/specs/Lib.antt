@@ -1,0 +1,3 @@
+pub mod Simulated
+pub mod Sim
+pub mod Tables

@@ -1,0 +1,8 @@
+//! A simulator of modules, clock by clock.
+#![tactic(auto)]
+
+mod shape_table;
+mod sim;
+mod steps;
+
+pub use sim::Sim;

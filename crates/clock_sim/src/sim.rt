@@ -1,0 +1,201 @@
+// A simulator of a module.
+
+ghost use Rattle.std.specs.Prelude.{◌≡◌, ℕ, ◌^◌, ◌<◌, ◌≤◌, IfOk, length, Some, slice_get};
+ghost use Rattle.verilog_tree.specs.Meaning.{FitNames, bit_of};
+ghost use Rattle.verilog_tree.specs.Names.{shapes_of, number_of};
+ghost use Rattle.verilog_tree.specs.Circuit.{IsSettling, with_inputs, next};
+ghost use Rattle.verilog_tree.specs.Cycle.{circuit_of};
+ghost use Rattle.verilog_tree.specs.Shown.{inputs_of, ports_of};
+ghost use Rattle.verilog_tree.specs.View.{design_view};
+ghost use Rattle.verilog_tree.specs.declared.tree.Signal.{Signal};
+ghost use Rattle.clock_sim.specs.Simulated.{values_of};
+ghost use Rattle.clock_sim.specs.Sim.{Simulation, IsSound, ArePorts, is_register, AreInitial, HoldInitial, cycle_of};
+
+use crate::shape_table::{ShapeTable, table_of};
+use crate::steps::{edge, settle, write};
+use mr_values::Memory;
+use settle_order::evaluation_order;
+use std::alloc::Global;
+use std::marker::Model;
+use verilog_tree::{Kind, Module};
+
+/// The numbers of the names of the inputs.
+#[derive(Clone, Copy, PartialEq, Eq, Debug)]
+pub struct InputPorts {
+    pub rst: usize,
+    pub ce: usize,
+    pub in_data: usize,
+}
+
+// The number of the first name with this text, and past the last where there is none.
+fn name_number(design: &Module, text: &str) -> usize
+    ensures { result ≡ number_of (design_view design.now) text.now }
+{
+    let names = design.names.as_slice();
+    for place in 0..names.len() {
+        if text == names[place].as_str() {
+            return place;
+        }
+    }
+    names.len()
+}
+
+// The names of the input ports.
+fn input_ports(design: &Module) -> InputPorts
+    requires { IsSound (design_view design.now) }
+    ensures { ArePorts (design_view design.now) (length (design_view design.now).names) result }
+{
+    InputPorts {
+        rst: name_number(design, "rst"),
+        ce: name_number(design, "ce"),
+        in_data: name_number(design, "in_data"),
+    }
+}
+
+// 1 where it is so.
+fn flag(is_so: bool) -> u128
+    ensures { result ≡ bit_of is_so }
+{
+    if is_so { 1 } else { 0 }
+}
+
+// The value of a name, and 0 past the last.
+fn value_at(values: &[u128], name: usize) -> u128
+    ensures { result ≡ values_of values.now name }
+{
+    if name < values.len() { values[name] } else { 0 }
+}
+
+// Writes the inputs to the values of their names.
+fn set_inputs(
+    design: &Module,
+    ports: InputPorts,
+    rst: bool,
+    ce: bool,
+    in_data: u128,
+    values: &mut [u128],
+)
+    requires ports { ArePorts (design_view design.now) (length values.old) ports }
+    requires fits { in_data < 2 ^ (shapes_of (design_view design.now)).width (ports_of (design_view design.now)).in_data }
+    requires names { FitNames (shapes_of (design_view design.now)) (values_of values.old) }
+    ensures set { values_of values.new ≡ with_inputs (inputs_of (ports_of (design_view design.now)) (cycle_of rst ce in_data)) (values_of values.old) }
+    ensures names { FitNames (shapes_of (design_view design.now)) (values_of values.new) }
+{
+    let _known = design.name;
+    write(values, ports.rst, flag(rst));
+    write(values, ports.ce, flag(ce));
+    write(values, ports.in_data, in_data);
+}
+
+/// A simulator: the values of all names, and the order in which the assignments are evaluated.
+#[derive(Drop)]
+pub struct Sim<'a> {
+    design: &'a Module,
+    ports: InputPorts,
+    table: ShapeTable,
+    order: Vec<usize>,
+    values: Vec<u128>,
+    staged: Vec<u128>,
+}
+
+impl<'a> Model for Sim<'a> {
+    ghost use Rattle.clock_sim.specs.Sim.{Simulation, IsSimulation};
+    ghost use Rattle.verilog_tree.specs.contracts.tree.Module as module_type;
+    ghost use Rattle.std.specs.Coded.{codes};
+
+    ghost Value = { Simulation };
+
+    ghost coded = { Prim.hlevel (codes, module_type.the_row.coded) };
+
+    ghost view = { λ s. record { design = s.design.now; values = s.values.items } };
+
+    ghost invariant = { λ s. IsSimulation s.design.now s.ports s.table s.order.items s.values.items s.staged.items };
+}
+
+fn is_register(kind: Kind) -> bool
+    ensures { result ≡ is_register kind }
+{
+    match kind {
+        Kind::Reg => true,
+        Kind::Input | Kind::Output | Kind::Wire => false,
+    }
+}
+
+// The values of all names at the start: the registers have their initial patterns, and all others are 0.
+fn initial_values(alloc: Global, design: &Module, initial: &[u128]) -> Result<Vec<u128>, Memory>
+    requires sound { IsSound (design_view design.now) }
+    requires fits { AreInitial (shapes_of (design_view design.now)) design.now.signals.items initial.now }
+    ensures values { IfOk result (λ values. HoldInitial design.now.signals.items initial.now values.items) }
+    ensures many { IfOk result (λ values. length values.items ≡ length (design_view design.now).names) }
+    ensures names { IfOk result (λ values. FitNames (shapes_of (design_view design.now)) (values_of values.items)) }
+{
+    let mut values = Vec::from_elem(alloc, 0, design.names.len())?;
+    let mut next = 0usize;
+    for signal in design.signals.as_slice() {
+        if is_register(signal.kind) && next < initial.len() {
+            write(&mut values, signal.name, initial[next]);
+            next += 1;
+        }
+    }
+    Ok(values)
+}
+
+impl<'a> Sim<'a> {
+    /// A simulator of a module whose registers have these patterns, one for each in the order of their declarations. Fails only for
+    /// want of memory.
+    pub fn start(alloc: Global, design: &'a Module, initial: &[u128]) -> Result<Sim<'a>, Memory>
+        requires sound { IsSound (design_view design.now) }
+        requires fits { AreInitial (shapes_of (design_view design.now)) design.now.signals.items initial.now }
+        ensures design { IfOk result (λ sim. sim.design ≡ design.now) }
+        ensures values { IfOk result (λ sim. HoldInitial design.now.signals.items initial.now sim.values) }
+    {
+        let count = design.names.len();
+        let ports = input_ports(design);
+        let table = table_of(alloc, design, count)?;
+        let order = evaluation_order(alloc, design, count)?;
+        let values = initial_values(alloc, design, initial)?;
+        let staged = Vec::from_elem(alloc, 0, count)?;
+        Ok(Sim {
+            design,
+            ports,
+            table,
+            order,
+            values,
+            staged,
+        })
+    }
+
+    /// Sets the inputs, of which `in_data` fits its port, and gives each wire and output the value of its expression. It takes no
+    /// memory.
+    pub fn settle(&mut self, rst: bool, ce: bool, in_data: u128)
+        requires { in_data < 2 ^ (shapes_of (design_view self.old.design)).width (ports_of (design_view self.old.design)).in_data }
+        ensures design { self.new.design ≡ self.old.design }
+        ensures settled { IsSettling (circuit_of (design_view self.old.design)) (with_inputs (inputs_of (ports_of (design_view self.old.design)) (cycle_of rst ce in_data)) (values_of self.old.values)) (values_of self.new.values) }
+    {
+        let values = self.values.as_mut_slice();
+        set_inputs(self.design, self.ports, rst, ce, in_data, values);
+        settle(&self.table, self.design, self.order.as_slice(), values);
+    }
+
+    /// All registers change together, to what the blocks give them. It takes no memory.
+    pub fn edge(&mut self)
+        ensures design { self.new.design ≡ self.old.design }
+        ensures next { (name : ℕ) → values_of self.new.values name ≡ next (circuit_of (design_view self.old.design)) (values_of self.old.values) name }
+    {
+        edge(
+            &self.table,
+            self.design,
+            self.values.as_mut_slice(),
+            self.staged.as_mut_slice(),
+        );
+    }
+
+    /// The pattern of the signal at this place of the module's signals: of a register as it is, and of a wire or an output as it was
+    /// last settled.
+    pub fn value(&self, signal: usize) -> u128
+        requires inside { signal < length self.now.design.signals.items }
+        ensures { (s : Signal) → slice_get self.now.design.signals.items signal ≡ Some s → result ≡ values_of self.now.values s.name }
+    {
+        value_at(self.values.as_slice(), self.design.signals[signal].name)
+    }
+}

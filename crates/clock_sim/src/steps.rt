@@ -1,0 +1,130 @@
+// The plain steps of a simulator: the wires are settled in an order, and the registers change together.
+
+ghost use Rattle.std.specs.Prelude.{◌≡◌, ℕ, ◌^◌, ◌<◌, ◌≤◌, IsTrue, length, set};
+ghost use Rattle.verilog_tree.specs.Meaning.{FitNames, IsFitting, fits, assigned};
+ghost use Rattle.verilog_tree.specs.Names.{shapes_of};
+ghost use Rattle.verilog_tree.specs.Circuit.{IsSettling, next};
+ghost use Rattle.verilog_tree.specs.Cycle.{circuit_of, IsDrivenOnce, given, condition_holds};
+ghost use Rattle.verilog_tree.specs.View.{tree_view, action_view, actions_view, design_view};
+ghost use Rattle.settle_order.specs.Placing.{IsEvaluationOrder};
+ghost use Rattle.clock_sim.specs.Simulated.{table_shapes, values_of, AssignsFit, action_fits, actions_fit, all_given, blocks_fit, Given};
+ghost use Rattle.clock_sim.specs.Tables.{TellsShapes};
+
+use crate::shape_table::ShapeTable;
+use verilog_tree::{Expr, Module, Stmt, alone, assigned};
+
+/// Gives a name a value.
+pub(crate) fn write(values: &mut [u128], name: usize, bits: u128)
+    requires { name < length values.old }
+    ensures { values.new ≡ set values.old name bits }
+{
+    values[name] = bits;
+}
+
+// A right side, cut to its target's length.
+fn value_for(
+    table: &ShapeTable,
+    design: &Module,
+    target: usize,
+    expr: &Expr,
+    values: &[u128],
+) -> u128
+    requires table { TellsShapes (table_shapes table.now.widths.items table.now.signs.items) (shapes_of (design_view design.now)) }
+    requires names { FitNames (shapes_of (design_view design.now)) (values_of values.now) }
+    requires width { IsFitting ((shapes_of (design_view design.now)).width target) }
+    requires fits { IsTrue (fits (shapes_of (design_view design.now)) (tree_view expr.now)) }
+    ensures value { result ≡ assigned (shapes_of (design_view design.now)) (values_of values.now) target (tree_view expr.now) }
+    ensures small { result < 2 ^ (shapes_of (design_view design.now)).width target }
+{
+    let _known = design.name;
+    assigned(table, target, expr, values)
+}
+
+// Whether a condition's value isn't 0.
+fn holds(table: &ShapeTable, design: &Module, condition: &Expr, values: &[u128]) -> bool
+    requires table { TellsShapes (table_shapes table.now.widths.items table.now.signs.items) (shapes_of (design_view design.now)) }
+    requires names { FitNames (shapes_of (design_view design.now)) (values_of values.now) }
+    requires fits { IsTrue (fits (shapes_of (design_view design.now)) (tree_view condition.now)) }
+    ensures { result ≡ condition_holds (shapes_of (design_view design.now)) (values_of values.now) (tree_view condition.now) }
+{
+    let _known = design.name;
+    alone(table, condition, values) != 0
+}
+
+/// Evaluates each assignment once, in this order.
+pub(crate) fn settle(table: &ShapeTable, design: &Module, order: &[usize], values: &mut [u128])
+    requires driven { IsDrivenOnce (design_view design.now) }
+    requires table { TellsShapes (table_shapes table.now.widths.items table.now.signs.items) (shapes_of (design_view design.now)) }
+    requires fits { AssignsFit (design_view design.now) (length values.old) }
+    requires order { IsEvaluationOrder (circuit_of (design_view design.now)) order.now }
+    requires names { FitNames (shapes_of (design_view design.now)) (values_of values.old) }
+    ensures settled { IsSettling (circuit_of (design_view design.now)) (values_of values.old) (values_of values.new) }
+    ensures names { FitNames (shapes_of (design_view design.now)) (values_of values.new) }
+{
+    for place in order {
+        let assign = &design.assigns.as_slice()[*place];
+        let bits = value_for(table, design, assign.target, &assign.value, values);
+        write(values, assign.target, bits);
+    }
+}
+
+// Gives the registers what a statement gives them, by the values of before the edge.
+#[cycle(run)]
+fn run(table: &ShapeTable, design: &Module, statement: &Stmt, values: &[u128], staged: &mut [u128])
+    requires table { TellsShapes (table_shapes table.now.widths.items table.now.signs.items) (shapes_of (design_view design.now)) }
+    requires names { FitNames (shapes_of (design_view design.now)) (values_of values.now) }
+    requires fits { IsTrue (action_fits (shapes_of (design_view design.now)) (length staged.old) (action_view statement.now)) }
+    requires staged { FitNames (shapes_of (design_view design.now)) (values_of staged.old) }
+    ensures given { Given (given (shapes_of (design_view design.now)) (values_of values.now) (action_view statement.now)) (values_of staged.old) (values_of staged.new) }
+    ensures names { FitNames (shapes_of (design_view design.now)) (values_of staged.new) }
+{
+    match statement {
+        Stmt::Block(parts) => run_all(table, design, parts, values, staged),
+        Stmt::If(condition, first, second) => {
+            if holds(table, design, condition, values) {
+                run(table, design, first, values, staged);
+            } else if let Some(other) = second {
+                run(table, design, other, values, staged);
+            }
+        }
+        Stmt::Set(target, value) => {
+            let bits = value_for(table, design, *target, value, values);
+            write(staged, *target, bits);
+        }
+    }
+}
+
+// Gives the registers what these statements give them, one after the other.
+#[cycle(run)]
+fn run_all(
+    table: &ShapeTable,
+    design: &Module,
+    statements: &[Stmt],
+    values: &[u128],
+    staged: &mut [u128],
+)
+    requires table { TellsShapes (table_shapes table.now.widths.items table.now.signs.items) (shapes_of (design_view design.now)) }
+    requires names { FitNames (shapes_of (design_view design.now)) (values_of values.now) }
+    requires fits { IsTrue (actions_fit (shapes_of (design_view design.now)) (length staged.old) (actions_view statements.now)) }
+    requires staged { FitNames (shapes_of (design_view design.now)) (values_of staged.old) }
+    ensures given { Given (all_given (shapes_of (design_view design.now)) (values_of values.now) (actions_view statements.now)) (values_of staged.old) (values_of staged.new) }
+    ensures names { FitNames (shapes_of (design_view design.now)) (values_of staged.new) }
+{
+    for statement in statements {
+        run(table, design, statement, values, staged);
+    }
+}
+
+/// All registers change together, to what the blocks give them.
+pub(crate) fn edge(table: &ShapeTable, design: &Module, values: &mut [u128], staged: &mut [u128])
+    requires table { TellsShapes (table_shapes table.now.widths.items table.now.signs.items) (shapes_of (design_view design.now)) }
+    requires sizes { length staged.old ≡ length values.old }
+    requires fits { IsTrue (blocks_fit (shapes_of (design_view design.now)) (length values.old) (design_view design.now).blocks) }
+    requires names { FitNames (shapes_of (design_view design.now)) (values_of values.old) }
+    ensures next { (register : ℕ) → values_of values.new register ≡ next (circuit_of (design_view design.now)) (values_of values.old) register }
+    ensures names { FitNames (shapes_of (design_view design.now)) (values_of values.new) }
+{
+    staged.copy_from_slice(values);
+    run_all(table, design, &design.blocks, values, staged);
+    values.copy_from_slice(staged);
+}
