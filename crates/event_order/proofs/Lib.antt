@@ -1,0 +1,3 @@
+pub mod AnOrder
+pub mod EveryOrder
+pub mod Moments

@@ -1,0 +1,19 @@
+//! Every order in which a simulator may take the steps of a cycle.
+#![tactic(auto)]
+
+ghost use Rattle.verilog_tree.specs.Checks.{Passes};
+ghost use Rattle.verilog_tree.specs.Cycle.{circuit_of};
+ghost use Rattle.verilog_tree.specs.Tree.{Design};
+ghost use Rattle.event_order.specs.Laws.{EveryOrder, EveryRun};
+
+/// In every order of one cycle of a module that passes the checks, from any content of registers and wires in which at least the
+/// assignments are pending whose wires differ from their expressions, the outputs are read from the settled wires, the registers end as
+/// the next registers, and what is pending at the end is such a content again.
+pub fn law_of_every_order()
+    ensures { (d : Design) → Passes d → EveryOrder (circuit_of d) }
+{}
+
+/// In all orders of a list of cycles the outputs are read from the values of the run.
+pub fn law_of_every_run()
+    ensures { (d : Design) → Passes d → EveryRun d }
+{}
