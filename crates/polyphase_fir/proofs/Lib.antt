@@ -10,3 +10,4 @@ pub mod CuttingLemmas
 pub mod RootLemmas
 pub mod ShownLemmas
 pub mod RealisesLemmas
+pub mod SilentLemmas

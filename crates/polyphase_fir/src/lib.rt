@@ -15,3 +15,6 @@ mod tree;
 mod widths;
 
 pub use polyphase::Polyphase;
+
+#[cfg(test)]
+mod tests;
