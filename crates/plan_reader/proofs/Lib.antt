@@ -1,3 +1,4 @@
 mod TableSteps
 mod ElementSteps
+mod PrintSteps
 mod Refusals

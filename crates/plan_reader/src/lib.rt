@@ -6,9 +6,11 @@ mod fault;
 mod fields;
 mod keys;
 mod plan_texts;
+mod printing;
 mod reading;
 mod shape;
 
 pub use fault::{FieldWhy, PlanReadFault, TapFault, TapWhy};
 pub use plan_texts::{PlanText, TapFile, TapFiles};
+pub use printing::plan_text;
 pub use reading::read_plan;
