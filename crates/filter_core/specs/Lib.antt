@@ -8,6 +8,7 @@ pub mod PlanMeanings
 pub mod Report
 pub mod CommandWords
 pub mod Compile
+pub mod Noble
 pub mod Tool
 pub mod FaultWords
 pub mod FaultLines

@@ -4,28 +4,35 @@ use Rattle.mr_values.specs.Files.{Files}
 use Rattle.mr_values.specs.Host.{HostState}
 use Rattle.filter_core.specs.declared.fault.Fault.{Fault}
 use Rattle.filter_core.specs.declared.fault.Fault.TheVariants.{Usage, NotBuilt}
-use Rattle.filter_core.specs.CommandWords.{CommandWords, compile_words}
+use Rattle.filter_core.specs.CommandWords.{CommandWords, compile_words, noble_words}
 use Rattle.filter_core.specs.FirstPlan.{FirstPlan}
+use Rattle.mr_values.specs.declared.plan.Plan.{Plan}
+use Rattle.filter_core.specs.PlanFile.{IsAcceptedFile}
+use Rattle.filter_core.specs.Noble.{NobleEnds}
 use Rattle.filter_core.specs.Compile.{CompileEnds, IsBuiltFile}
 
 -- the files that a command reads
 abbrev pub files_read : CommandWords → List (List ℕ)
 files_read (compile_words plan text report) = plan ∷ []
+files_read (noble_words plan out) = plan ∷ []
 files_read _ = []
 
 -- a command that isn't built makes no host call
 abbrev pub IsUnbuilt : CommandWords → Result (Unit {0}) Fault → HostState → HostState → Type 0
 IsUnbuilt (compile_words plan text report) result old new = Unit {0}
+IsUnbuilt (noble_words plan out) result old new = Unit {0}
 IsUnbuilt _ result old new = (result ≡ Err NotBuilt) × (new ≡ old)
 
 -- each command's answers, and the host after them
 abbrev pub CommandEnds : CommandWords → Result (Unit {0}) Fault → HostState → HostState → Type 0
 CommandEnds (compile_words plan text report) result old new = CompileEnds plan text report result old new
+CommandEnds (noble_words plan out) result old new = NobleEnds plan out result old new
 CommandEnds _ result old new = (result ≡ Err NotBuilt) × (new ≡ old)
 
 -- the files that a command reads are there and accepted
 abbrev pub IsReady : CommandWords → Files → Type 0
 IsReady (compile_words plan text report) files = (first : FirstPlan) × IsBuiltFile plan files first
+IsReady (noble_words plan out) files = (meaning : Plan) × IsAcceptedFile plan files meaning
 IsReady _ files = ⊥
 
 -- the same of words that may be no command

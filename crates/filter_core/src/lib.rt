@@ -8,6 +8,7 @@ mod fault_lines;
 mod fault_words;
 mod files;
 mod first_plan;
+mod noble_command;
 mod report;
 mod single_tap;
 mod status;

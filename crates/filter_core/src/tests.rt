@@ -1,6 +1,7 @@
 //! The program over a host in memory.
 use crate::{Fault, HostCall, filter_tool};
-use mr_values::MemoryHost;
+use mr_values::{Element, MemoryHost};
+use plan_reader::read_plan;
 use std::alloc::Global;
 use std::test::Fail;
 
@@ -109,5 +110,27 @@ fn answers_the_first_fault(rt: HostRuntime) -> Result<(), Fail> {
         let fault = outcome.fault.ok_or("no fault")?;
         assert_eq!(rt; format!(in alloc; "{fault}")?.as_str(), line);
     }
+    Ok(())
+}
+
+#[test]
+fn rewrites_a_plan(rt: HostRuntime) -> Result<(), Fail> {
+    let alloc = rt.alloc();
+    let plan =
+        b"version = 1\nwidth = 4\nticks = 2\n[[element]]\nkind = \"up\"\nfactor = 2\n[[element]]\nkind = \"filter\"\ntaps = [1, 0, 2]\n[[element]]\nkind = \"down\"\nfactor = 3\n";
+    let mut host = host_with(alloc, plan)?;
+    let outcome = filter_tool(alloc, &words(alloc, "noble plan out")?, &mut host);
+    assert_eq!(rt; outcome.status, 0);
+    let out = read_plan(alloc, host.file("out").ok_or("no file")?)?;
+    assert!(rt;
+        matches!(
+            out.plan.elements.as_slice(),
+            [
+                Element::Filter { .. },
+                Element::Down { factor: 3 },
+                Element::Up { factor: 2 },
+            ]
+        )
+    );
     Ok(())
 }

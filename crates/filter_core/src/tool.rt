@@ -9,6 +9,7 @@ ghost use Rattle.filter_core.specs.Tool.{CommandEnds, ToolEnds, IsUnbuilt, IsUnb
 
 use crate::Fault;
 use crate::compile_command::compile;
+use crate::noble_command::noble;
 use crate::status::status_of;
 use crate::words::{Command, read_words};
 use mr_values::Host;
@@ -75,7 +76,7 @@ fn run<H: Host>(alloc: Global, command: Command<'_>, host: &mut H) -> Result<(),
         Command::Sim { .. } => Err(Fault::NotBuilt),
         Command::Order { .. } => Err(Fault::NotBuilt),
         Command::Extreme { .. } => Err(Fault::NotBuilt),
-        Command::Noble { .. } => Err(Fault::NotBuilt),
+        Command::Noble { plan, out } => noble(alloc, plan, out, host),
         Command::Demo { .. } => Err(Fault::NotBuilt),
     }
 }

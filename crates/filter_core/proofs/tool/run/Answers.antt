@@ -1,7 +1,7 @@
 use Rattle.std.proofs.Common.{subst}
 use Rattle.filter_core.specs.CommandWords.{words_of}
 use Rattle.filter_core.specs.Tool.{IsReady}
-use Rattle.filter_core.proofs.Completeness.{compile-complete}
+use Rattle.filter_core.proofs.Completeness.{compile-complete, noble-complete}
 use Rattle.filter_core.proofs.tool.run.Goals as goal
 
 pub returns-in-Compile-clause-complete : goal.returns-in-Compile-clause-complete
@@ -10,3 +10,10 @@ returns-in-Compile-clause-complete g c = λ told ready unstruck.
     let new = g.H.Host.state c.compile.new.host in
     let accepted = subst (λ command. IsReady (words_of command) old.files) c.in-Compile.is ready in
     compile-complete c.in-Compile.plan.now c.in-Compile.text.now c.in-Compile.report.now c.compile.result old new (c.compile.ensures.cause.struck told) (c.compile.ensures.told told) accepted.0 accepted.1 unstruck
+
+pub returns-in-Noble-clause-complete : goal.returns-in-Noble-clause-complete
+returns-in-Noble-clause-complete g c = λ told ready unstruck.
+    let old = g.H.Host.state c.args.host.now in
+    let new = g.H.Host.state c.noble.new.host in
+    let accepted = subst (λ command. IsReady (words_of command) old.files) c.in-Noble.is ready in
+    noble-complete c.in-Noble.plan.now c.in-Noble.out.now c.noble.result old new (c.noble.ensures.cause.struck told) (c.noble.ensures.told told) accepted.0 accepted.1 unstruck
