@@ -1,4 +1,8 @@
 // Why a text is refused.
+ghost use Rattle.std.specs.Prelude.{◌≡◌};
+ghost use Rattle.verilog_read.specs.declared.fault.ReadFault.TheVariants as fault;
+
+use mr_values::Memory;
 use verilog_tree::ModuleFault;
 
 /// The first place, a byte counted from 0, at which a text is refused, or the first check that its module fails.
@@ -10,4 +14,12 @@ pub enum ReadFault {
     TooDeep { place: u64 },
     Module(ModuleFault),
     Memory,
+}
+
+impl From<Memory> for ReadFault {
+    ghost from_gives = { λ _ e. e ≡ fault.Memory };
+
+    fn from(_: Memory) -> Self {
+        ReadFault::Memory
+    }
 }

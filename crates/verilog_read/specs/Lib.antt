@@ -1,0 +1,3 @@
+pub mod Reader
+pub mod Places
+pub mod Answer
