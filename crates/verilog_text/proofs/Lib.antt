@@ -20,3 +20,5 @@ pub mod Around
 pub mod Sound
 pub mod StatementSound
 pub mod TextSound
+pub mod Viable
+pub mod TextViable

@@ -43,19 +43,19 @@ trees_of-with_member : (cs : Sources) (c : Source) → trees_of (with_member cs 
 trees_of-with_member no_member c = refl
 trees_of-with_member (member d cs) c = ap (tree.more (tree_of d)) (trees_of-with_member cs c)
 
-depths-with_member : (cs : Sources) (c : Source) (n : ℕ) → depths cs ≤ n → depth c ≤ n → depths (with_member cs c) ≤ n
+pub depths-with_member : (cs : Sources) (c : Source) (n : ℕ) → depths cs ≤ n → depth c ≤ n → depths (with_member cs c) ≤ n
 depths-with_member no_member c n h k = omega arith
 depths-with_member (member d cs) c n h k = let r = depths-with_member cs c n (omega arith) k in omega arith
 
-operators-with_member : (cs : Sources) (c : Source) → operators_in (with_member cs c) ≡ operators_in cs + operators c
+pub operators-with_member : (cs : Sources) (c : Source) → operators_in (with_member cs c) ≡ operators_in cs + operators c
 operators-with_member no_member c = omega arith
 operators-with_member (member d cs) c = let r = operators-with_member cs c in omega arith
 
-grouped_with_member : (cs : Sources) (c : Source) → AreGrouped cs → is_plain (tree_of c) ≡ false → IsGrouped c → AreGrouped (with_member cs c)
+pub grouped_with_member : (cs : Sources) (c : Source) → AreGrouped cs → is_plain (tree_of c) ≡ false → IsGrouped c → AreGrouped (with_member cs c)
 grouped_with_member no_member c g p h = (p, h, tt)
 grouped_with_member (member d cs) c g p h = (g.0, g.1, grouped_with_member cs c g.2 p h)
 
-some_with_member : (cs : Sources) (c : Source) → HasMember (with_member cs c)
+pub some_with_member : (cs : Sources) (c : Source) → HasMember (with_member cs c)
 some_with_member no_member c = tt
 some_with_member (member d cs) c = tt
 
@@ -64,7 +64,7 @@ begun_more : (m : Mark) (cs : Sources) (c : Source) (rest : List Token) → begu
 begun_more m no_member c rest = refl
 begun_more m (member d cs) c rest = ap (λ ts. marked m (written d ts)) (begun_more mark.Comma cs c rest)
 
-begun_end : (m : Mark) (cs : Sources) (c : Source) (rest : List Token) → begun m cs (written c (marked mark.CloseBrace rest)) ≡ written_members m (with_member cs c) rest
+pub begun_end : (m : Mark) (cs : Sources) (c : Source) (rest : List Token) → begun m cs (written c (marked mark.CloseBrace rest)) ≡ written_members m (with_member cs c) rest
 begun_end m no_member c rest = refl
 begun_end m (member d cs) c rest = ap (λ ts. marked m (written d ts)) (begun_end mark.Comma cs c rest)
 

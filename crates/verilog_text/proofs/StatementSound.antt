@@ -127,11 +127,11 @@ IsFine limits stack (Names name) = (levels (frames stack) ≤ limits.levels) × 
 IsFine limits stack (InValue name tokens s) = (levels (frames stack) ≤ limits.levels) × IsGood limits stack × Inside (left_of limits (levels (frames stack))) s tokens
 
 -- one more statement at the end
-abbrev with_statement : Statements → Statement → Statements
+abbrev pub with_statement : Statements → Statement → Statements
 with_statement none s = more s none
 with_statement (more first rest) s = more first (with_statement rest s)
 
-text_with : (xs : Statements) (s : Statement) (rest : List Token) → statements_text (with_statement xs s) rest ≡ statements_text xs (statement_text s rest)
+pub text_with : (xs : Statements) (s : Statement) (rest : List Token) → statements_text (with_statement xs s) rest ≡ statements_text xs (statement_text s rest)
 text_with none s rest = refl
 text_with (more first xs) s rest = ap (statement_text first) (text_with xs s rest)
 
@@ -139,15 +139,15 @@ actions_with : (xs : Statements) (s : Statement) → actions_of (with_statement 
 actions_with none s = refl
 actions_with (more first xs) s = ap (tree.action (action_of first)) (actions_with xs s)
 
-parted_with : (xs : Statements) (s : Statement) → AreParted xs → IsParted s → AreParted (with_statement xs s)
+pub parted_with : (xs : Statements) (s : Statement) → AreParted xs → IsParted s → AreParted (with_statement xs s)
 parted_with none s h g = (g, tt)
 parted_with (more first xs) s h g = (h.0, parted_with xs s h.1 g)
 
-short_with : (n : ℕ) (xs : Statements) (s : Statement) → AreShort n xs → IsShort n s → AreShort n (with_statement xs s)
+pub short_with : (n : ℕ) (xs : Statements) (s : Statement) → AreShort n xs → IsShort n s → AreShort n (with_statement xs s)
 short_with n none s h g = (g, tt)
 short_with n (more first xs) s h g = (h.0, short_with n xs s h.1 g)
 
-height_with : (n : ℕ) (xs : Statements) (s : Statement) → heights xs ≤ n → height s ≤ n → heights (with_statement xs s) ≤ n
+pub height_with : (n : ℕ) (xs : Statements) (s : Statement) → heights xs ≤ n → height s ≤ n → heights (with_statement xs s) ≤ n
 height_with n none s h g = omega arith
 height_with n (more first xs) s h g = omega (arith, height_with n xs s (omega arith) g)
 

@@ -90,27 +90,27 @@ pub data Part : Type 0 where
   Finished : (t : Text) → Part
 
 module _ (limits : Limits) (clock : ℕ) where
-  abbrev ports_before : Text → List Token → List Token
+  abbrev pub ports_before : Text → List Token → List Token
   ports_before t rest = worded word.Module (token.Name t.name ∷ marked mark.Open (fresh_text t.port (ports_text t.ports rest)))
 
-  abbrev items_before : Text → List Token → List Token
+  abbrev pub items_before : Text → List Token → List Token
   items_before t rest = ports_before t (marked mark.Close (marked mark.Semicolon (items_text clock t.items rest)))
 
-  abbrev place_text : Place → List Token → List Token
+  abbrev pub place_text : Place → List Token → List Token
   place_text (First name) rest = worded word.Module (token.Name name ∷ marked mark.Open rest)
   place_text (Behind t) rest = ports_before t (marked mark.Comma rest)
 
-  abbrev place_draft : Place → Draft
+  abbrev pub place_draft : Place → Draft
   place_draft (First name) = record machine.empty { name = name }
   place_draft (Behind t) = drafted t
 
-  abbrev last_kind : Text → Kind
+  abbrev pub last_kind : Text → Kind
   last_kind t = direction_kind (latest t.port t.ports).direction
 
-  abbrev last_shape : Text → Shape
+  abbrev pub last_shape : Text → Shape
   last_shape t = (latest t.port t.ports).shape
 
-  abbrev state_of : Part → State
+  abbrev pub state_of : Part → State
   state_of AtStart = at machine.empty machine.Start
   state_of AtName = at machine.empty machine.Naming
   state_of (AtOpen name) = at (record machine.empty { name = name }) machine.Opening
@@ -135,13 +135,13 @@ module _ (limits : Limits) (clock : ℕ) where
   state_of (InBlock t stack part) = at (drafted t) (machine.Running (statements.state_of stack part))
   state_of (Finished t) = at (drafted t) machine.Done
 
-  abbrev event_begun : List Token → List Token
+  abbrev pub event_begun : List Token → List Token
   event_begun rest = worded word.Always (marked mark.At (marked mark.Open (worded word.Posedge (token.Name clock ∷ marked mark.Close rest))))
 
-  abbrev store_begun : Text → Store → Shape → ℕ → List ℕ → List Token → List Token
+  abbrev pub store_begun : Text → Store → Shape → ℕ → List ℕ → List Token → List Token
   store_begun t store shape first others rest = items_before t (worded (store_word store) (shape_text shape (token.Name first ∷ names_text others rest)))
 
-  abbrev text_of : Part → List Token → List Token
+  abbrev pub text_of : Part → List Token → List Token
   text_of AtStart rest = rest
   text_of AtName rest = worded word.Module rest
   text_of (AtOpen name) rest = worded word.Module (token.Name name ∷ rest)
@@ -167,10 +167,10 @@ module _ (limits : Limits) (clock : ℕ) where
   text_of (Finished t) rest = items_before t (worded word.EndModule rest)
 
   -- before the items there are none, and each expression and statement so far is within the grammar
-  abbrev IsBare : Text → Type 0
+  abbrev pub IsBare : Text → Type 0
   IsBare t = t.items ≡ []
 
-  abbrev IsFine : Part → Type 0
+  abbrev pub IsFine : Part → Type 0
   IsFine AtStart = Unit {0}
   IsFine AtName = Unit {0}
   IsFine (AtOpen name) = Unit {0}
@@ -198,21 +198,21 @@ module _ (limits : Limits) (clock : ℕ) where
   IsFine (Finished t) = AreItems limits t.items
 
   -- a step leads to a state in which all that was read fits, the token too
-  record Steps (so_far : List Token → List Token) (t : Token) (s : State) : Type 0 where
-    part' : Part
-    state : state_of part' ≡ s
-    fine : IsFine part'
-    same : (rest : List Token) → so_far (t ∷ rest) ≡ text_of part' rest
+  pub record Steps (so_far : List Token → List Token) (t : Token) (s : State) : Type 0 where
+    pub part' : Part
+    pub state : state_of part' ≡ s
+    pub fine : IsFine part'
+    pub same : (rest : List Token) → so_far (t ∷ rest) ≡ text_of part' rest
 
   -- ---- one more port, one more name, one more item
 
   abbrev with_port : Text → Port → Text
   with_port t p = record t { ports = t.ports ++ p ∷ [] }
 
-  abbrev with_item : Text → Item → Text
+  abbrev pub with_item : Text → Item → Text
   with_item t x = record t { items = t.items ++ x ∷ [] }
 
-  ports_text-last : (ps : List Port) (p : Port) (rest : List Token) → ports_text (ps ++ p ∷ []) rest ≡ ports_text ps (marked mark.Comma (port_text p rest))
+  pub ports_text-last : (ps : List Port) (p : Port) (rest : List Token) → ports_text (ps ++ p ∷ []) rest ≡ ports_text ps (marked mark.Comma (port_text p rest))
   ports_text-last [] p rest = refl
   ports_text-last (q ∷ ps) p rest = ap (λ ts. marked mark.Comma (port_text q ts)) (ports_text-last ps p rest)
 
@@ -236,7 +236,7 @@ module _ (limits : Limits) (clock : ℕ) where
   port_signals-same q (Fresh r ∷ ps) n = ap (λ ss. fresh_signal r ∷ ss) (port_signals-same r ps n)
   port_signals-same q (Same m ∷ ps) n = ap (λ ss. signal_of (direction_kind q.direction) q.shape m ∷ ss) (port_signals-same q ps n)
 
-  names_text-last : (ns : List ℕ) (n : ℕ) (rest : List Token) → names_text (ns ++ n ∷ []) rest ≡ names_text ns (marked mark.Comma (token.Name n ∷ rest))
+  pub names_text-last : (ns : List ℕ) (n : ℕ) (rest : List Token) → names_text (ns ++ n ∷ []) rest ≡ names_text ns (marked mark.Comma (token.Name n ∷ rest))
   names_text-last [] n rest = refl
   names_text-last (m ∷ ns) n rest = ap (λ ts. marked mark.Comma (token.Name m ∷ ts)) (names_text-last ns n rest)
 
@@ -244,7 +244,7 @@ module _ (limits : Limits) (clock : ℕ) where
   items_text-last [] x rest = refl
   items_text-last (y ∷ xs) x rest = ap (item_text clock y) (items_text-last xs x rest)
 
-  items_last : (xs : List Item) (x : Item) → AreItems limits xs → IsItem limits x → AreItems limits (xs ++ x ∷ [])
+  pub items_last : (xs : List Item) (x : Item) → AreItems limits xs → IsItem limits x → AreItems limits (xs ++ x ∷ [])
   items_last [] x h g = (g, tt)
   items_last (y ∷ xs) x h g = (h.0, items_last xs x h.1 g)
 
@@ -297,7 +297,7 @@ module _ (limits : Limits) (clock : ℕ) where
       (ap (λ ss. fresh_signal t.port ∷ (port_signals t.port t.ports ++ ss)) (items_signals-last t.items x) ∙ ap (λ ss. fresh_signal t.port ∷ ss) (sym (append_assoc (port_signals t.port t.ports) (items_signals t.items) (item_signals x))))
       (assigns_of-last t.items x) (blocks_of-last t.items x)
 
-  item_written : (t : Text) (x : Item) (rest : List Token) → items_before t (item_text clock x rest) ≡ items_before (with_item t x) rest
+  pub item_written : (t : Text) (x : Item) (rest : List Token) → items_before t (item_text clock x rest) ≡ items_before (with_item t x) rest
   item_written t x rest = ap (λ ts. ports_before t (marked mark.Close (marked mark.Semicolon ts))) (sym (items_text-last t.items x rest))
 
   -- ---- headings
@@ -541,7 +541,7 @@ module _ (limits : Limits) (clock : ℕ) where
   bare_items : (u : Text) (rest : List Token) → IsBare u → items_text clock u.items rest ≡ rest
   bare_items u rest bare = ap (λ xs. items_text clock xs rest) bare
 
-  step_sound : (part : Part) (t : Token) (s : State) → IsFine part → step limits clock (state_of part) t ≡ Ok s → Steps (text_of part) t s
+  pub step_sound : (part : Part) (t : Token) (s : State) → IsFine part → step limits clock (state_of part) t ≡ Ok s → Steps (text_of part) t s
   step_sound AtStart (token.Keyword word.Module) s fine e = record { part' = AtName; state = ok_inverse _ s e; fine = tt; same = λ rest. refl }
   step_sound AtStart t s fine e = absurd (never _ s e)
   step_sound AtName (token.Name n) s fine e = record { part' = AtOpen n; state = ok_inverse _ s e; fine = tt; same = λ rest. refl }
@@ -582,7 +582,7 @@ module _ (limits : Limits) (clock : ℕ) where
   step_sound (InBlock u stack part) t s fine e = block_step u stack part t s fine e
   step_sound (Finished u) t s fine e = absurd (never _ s e)
 
-  then_ok : (r : Result State Why) (next : State → Result State Why) (s : State) → machine.and_then r next ≡ Ok s → (x : State) × (r ≡ Ok x) × (next x ≡ Ok s)
+  pub then_ok : (r : Result State Why) (next : State → Result State Why) (s : State) → machine.and_then r next ≡ Ok s → (x : State) × (r ≡ Ok x) × (next x ≡ Ok s)
   then_ok (Ok x) next s e = (x, refl, e)
   then_ok (Err w) next s e = absurd (never _ s e)
 

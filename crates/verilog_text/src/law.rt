@@ -1,11 +1,11 @@
 //! Laws of the definitions.
 
-ghost use Rattle.std.specs.Prelude.{◌≡◌, ℕ, List, Ok};
+ghost use Rattle.std.specs.Prelude.{◌≡◌, ◌++◌, ℕ, List, Ok};
 ghost use Rattle.verilog_tree.specs.Tree.{Design};
 ghost use Rattle.verilog_text.specs.declared.token.Token.{Token};
 ghost use Rattle.verilog_text.specs.Grammar.{Limits};
 ghost use Rattle.verilog_text.specs.Text.{Text, AreItems, tokens_of};
-ghost use Rattle.verilog_text.specs.TextMachine.{Draft, Done, at, drafted, start, run};
+ghost use Rattle.verilog_text.specs.TextMachine.{Draft, State, Done, at, drafted, start, run};
 ghost use Rattle.verilog_text.specs.Reading.{Reads};
 
 /// One text reads as at most one module.
@@ -19,4 +19,10 @@ pub fn one_reading()
 pub fn machine_reads()
     ensures accepts { (bounds : Limits) (clock : ℕ) (text : Text) → AreItems bounds text.items → run bounds clock start (tokens_of clock text) ≡ Ok (at (drafted text) Done) }
     ensures only { (bounds : Limits) (clock : ℕ) (tokens : List Token) (draft : Draft) → run bounds clock start tokens ≡ Ok (at draft Done) → (text : Text) × AreItems bounds text.items × (tokens_of clock text ≡ tokens) × (drafted text ≡ draft) }
+{}
+
+/// Whatever tokens the machine takes, some text of the grammar begins with them.
+#[tactic(auto)]
+pub fn machine_goes_on()
+    ensures { (bounds : Limits) (clock : ℕ) (tokens : List Token) (state : State) → run bounds clock start tokens ≡ Ok state → (text : Text) × (rest : List Token) × AreItems bounds text.items × (tokens_of clock text ≡ tokens ++ rest) }
 {}
