@@ -11,12 +11,13 @@ use Rattle.verilog_text.specs.Lexer.{Placed}
 use Rattle.verilog_text.specs.Names.{Lexeme, Inside, Outside, Unreadable, names_behind}
 use Rattle.verilog_text.specs.TextMachine.{Done, Draft, State, at, drafted, start, step, run, and_then}
 use Rattle.verilog_text.proofs.TextSteps.{accepts}
+use Rattle.verilog_text.proofs.TextViable.{goes_on}
 use Rattle.verilog_lex.specs.declared.lexeme.PlacedLexeme.{PlacedLexeme}
 use Rattle.verilog_lex.specs.Lexed.{Standing, standing_view, standing_in, IsLexed}
 use Rattle.verilog_read.specs.declared.fault.ReadFault.{ReadFault}
 use Rattle.verilog_read.specs.declared.fault.ReadFault.TheVariants as fault
 use Rattle.verilog_read.specs.Reader.{Refusal, is_done, lexeme_step, ended, go_on, read_from}
-use Rattle.verilog_read.specs.Answer.{FailsAt, CannotGoOn, CannotEnd, CannotStand, IsRefused, StopsAt, IsStop}
+use Rattle.verilog_read.specs.Answer.{FailsAt, Begins, CannotGoOn, CannotEnd, CannotStand, IsRefused, StopsAt, IsStop}
 
 abbrev Stop : ℕ → ℕ → State → List Standing → ℕ → Why → Type 0
 Stop clock end s [] place reason = (place ≡ end) × (reason ≡ why.Syntax) × (is_done s.phase ≡ false)
@@ -50,8 +51,8 @@ stops_here clock end s x xs place reason why' is e =
     let h = same_refusal (record { place = x.place; reason = why' }) (record { place = place; reason = reason }) e in
     record { front = []; rest = x ∷ xs; parts = refl; before = []; are_tokens = refl; state = s; takes = refl; stop = (h.0, is ∙ ap Err (sym h.1)) }
 
-goes_on : (clock end : ℕ) (s next : State) (t : Token) (at_place : ℕ) (xs : List Standing) (place : ℕ) (reason : Why) → step limits clock s t ≡ Ok next → Halts clock end next xs place reason → Halts clock end s (record { place = at_place; lexeme = Inside t } ∷ xs) place reason
-goes_on clock end s next t at_place xs place reason is h = record {
+passes_on : (clock end : ℕ) (s next : State) (t : Token) (at_place : ℕ) (xs : List Standing) (place : ℕ) (reason : Why) → step limits clock s t ≡ Ok next → Halts clock end next xs place reason → Halts clock end s (record { place = at_place; lexeme = Inside t } ∷ xs) place reason
+passes_on clock end s next t at_place xs place reason is h = record {
   front = record { place = at_place; lexeme = Inside t } ∷ h.front;
   rest = h.rest;
   parts = ap (λ ys. record { place = at_place; lexeme = Inside t } ∷ ys) h.parts;
@@ -63,7 +64,7 @@ goes_on clock end s next t at_place xs place reason is h = record {
 }
 
 by_step : (clock end : ℕ) (s : State) (t : Token) (at_place : ℕ) (xs : List Standing) (place : ℕ) (reason : Why) (r : Result State Why) → step limits clock s t ≡ r → go_on r at_place (λ next. read_from clock end next xs) ≡ Err (record { place = place; reason = reason }) → ((next : State) → read_from clock end next xs ≡ Err (record { place = place; reason = reason }) → Halts clock end next xs place reason) → Halts clock end s (record { place = at_place; lexeme = Inside t } ∷ xs) place reason
-by_step clock end s t at_place xs place reason (Ok next) is e more = goes_on clock end s next t at_place xs place reason is (more next e)
+by_step clock end s t at_place xs place reason (Ok next) is e more = passes_on clock end s next t at_place xs place reason is (more next e)
 by_step clock end s t at_place xs place reason (Err w) is e more = stops_here clock end s (record { place = at_place; lexeme = Inside t }) xs place reason w is e
 
 by_lexeme : (clock end : ℕ) (xs : List Standing) (s : State) (place : ℕ) (reason : Why) → ((next : State) → read_from clock end next xs ≡ Err (record { place = place; reason = reason }) → Halts clock end next xs place reason) → (at_place : ℕ) (l : Lexeme) → go_on (lexeme_step clock s l) at_place (λ next. read_from clock end next xs) ≡ Err (record { place = place; reason = reason }) → Halts clock end s (record { place = at_place; lexeme = l } ∷ xs) place reason
@@ -113,6 +114,9 @@ is_refused : (clock end : ℕ) (before : List Token) (s : State) (rest : List St
 is_refused clock end before s [] place reason takes stop = (stop.0, stop.1, never_ends clock before s takes stop.2)
 is_refused clock end before s (x ∷ rest) place reason takes stop = (stop.0, stop.1, cannot_stand clock before s x.lexeme reason takes stop.1)
 
+begins_of : (clock : ℕ) (before : List Token) (s : State) → run limits clock start before ≡ Ok s → Begins clock before
+begins_of clock before s takes = let r = goes_on limits clock before s takes in record { text = r.0; in_limits = r.2; after = r.1; text_is = r.3 }
+
 stops_at : (bytes : List ℕ) (names : List (List ℕ)) (items : List PlacedLexeme) (place : ℕ) (reason : Why) → IsLexed bytes names items → read_from (number_in names clock_text) (length bytes) start (map standing_view items) ≡ Err (record { place = place; reason = reason }) → StopsAt bytes place reason
 stops_at bytes names items place reason x e =
     let pieces : List Placed = x.pieces in
@@ -132,6 +136,7 @@ stops_at bytes names items place reason x e =
       parts = h.parts;
       before = h.before;
       are_tokens = h.are_tokens;
+      begins = begins_of (number_in all clock_text) h.before h.state h.takes;
       state = h.state;
       takes = h.takes;
       refused = is_refused (number_in all clock_text) (length bytes) h.before h.state h.rest place reason h.takes h.stop;

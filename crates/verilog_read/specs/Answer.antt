@@ -37,6 +37,13 @@ CannotGoOn clock before t = (text : Text) (after : List Token) → AreItems limi
 abbrev pub CannotEnd : ℕ → List Token → Type 0
 CannotEnd clock before = (text : Text) → AreItems limits text.items → tokens_of clock text ≡ before → ⊥
 
+-- some text of the grammar begins with these tokens
+pub record Begins (clock : ℕ) (before : List Token) : Type 0 where
+  pub text : Text
+  pub in_limits : AreItems limits text.items
+  pub after : List Token
+  pub text_is : tokens_of clock text ≡ before ++ after
+
 abbrev pub CannotStand : ℕ → List Token → Lexeme → Type 0
 CannotStand clock before (Inside t) = CannotGoOn clock before t
 CannotStand clock before Outside = Unit {0}
@@ -47,7 +54,7 @@ abbrev pub IsRefused : ℕ → ℕ → List Token → machine.State → List Sta
 IsRefused clock end before s [] place reason = (place ≡ end) × (reason ≡ why.Syntax) × CannotEnd clock before
 IsRefused clock end before s (x ∷ rest) place reason = (place ≡ x.place) × (lexeme_step clock s x.lexeme ≡ Err reason) × CannotStand clock before x.lexeme
 
--- tokens stand before the place, the machine takes them, and no text of the grammar goes on with what stands there
+-- the first place such that no text of the grammar begins with the tokens before it and what stands there: some text begins with those before it
 pub record StopsAt (bytes : List ℕ) (place : ℕ) (reason : Why) : Type 0 where
   pub pieces : List Placed
   pub scans : Scans 0 bytes pieces
@@ -56,6 +63,7 @@ pub record StopsAt (bytes : List ℕ) (place : ℕ) (reason : Why) : Type 0 wher
   pub parts : map (standing_in (names_behind [] pieces)) pieces ≡ front ++ rest
   pub before : List Token
   pub are_tokens : map (λ x. x.lexeme) front ≡ map Inside before
+  pub begins : Begins (number_in (names_behind [] pieces) clock_text) before
   pub state : machine.State
   pub takes : machine.run limits (number_in (names_behind [] pieces) clock_text) machine.start before ≡ Ok state
   pub refused : IsRefused (number_in (names_behind [] pieces) clock_text) (length bytes) before state rest place reason
