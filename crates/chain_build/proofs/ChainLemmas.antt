@@ -8,8 +8,8 @@ use Rattle.mr_values.specs.declared.plan.Element.{Element}
 use Rattle.mr_values.specs.declared.plan.Element.TheVariants.{Up, Down, Filter, CicDown, CicUp, Round}
 use Rattle.mr_values.specs.Sequence.{Sequence}
 use Rattle.mr_values.specs.declared.plan.Form.TheVariants.{Parallel, Symmetric, HalfBand, Folded, Distributed}
-use Rattle.mr_values.specs.Timing.{Group, Fir, DownCic, UpCic, Rounding, join_filter, groups, input, last_stream, latency}
-use Rattle.mr_values.specs.Value.{chain}
+use Rattle.mr_values.specs.Timing.{Group, Fir, DownCic, UpCic, Rounding, join_up, join_filter, groups, input, last_stream, latency}
+use Rattle.mr_values.specs.Value.{chain, size}
 use Rattle.mr_values.specs.Width.{FitsWidth, IsLeastWidth}
 use Rattle.net_graph.specs.declared.cell.Cell.{Cell}
 use Rattle.net_graph.specs.declared.cell.Node.{Node}
@@ -39,19 +39,27 @@ use Rattle.chain_build.proofs.Grown.{IsGrown-trans}
 -- ---- which plans are built
 
 built-filter : (taps : List ℤ) (gs : List Group) → AreBuiltGroups gs → AreBuiltGroups (join_filter taps Parallel gs)
-built-filter taps [] h = ((refl, refl), tt)
-built-filter taps (Fir None None down ∷ gs) h = ((refl, refl), h.1)
-built-filter taps (Fir None (Some f) down ∷ gs) h = ((refl, refl), h)
-built-filter taps (Fir (Some u) None down ∷ gs) h = ((refl, refl), h)
-built-filter taps (Fir (Some u) (Some f) down ∷ gs) h = ((refl, refl), h)
-built-filter taps (DownCic factor stages delay ∷ gs) h = ((refl, refl), h)
-built-filter taps (UpCic factor stages delay ∷ gs) h = ((refl, refl), h)
-built-filter taps (Rounding shift mode ∷ gs) h = ((refl, refl), h)
+built-filter taps [] h = (refl, tt)
+built-filter taps (Fir None None down ∷ gs) h = (refl, h.1)
+built-filter taps (Fir None (Some f) down ∷ gs) h = (refl, h)
+built-filter taps (Fir (Some u) None down ∷ gs) h = (refl, h)
+built-filter taps (Fir (Some u) (Some f) down ∷ gs) h = (refl, h)
+built-filter taps (DownCic factor stages delay ∷ gs) h = (refl, h)
+built-filter taps (UpCic factor stages delay ∷ gs) h = (refl, h)
+built-filter taps (Rounding shift mode ∷ gs) h = (refl, h)
+
+built-up : (factor : ℕ) (gs : List Group) → AreBuiltGroups gs → AreBuiltGroups (join_up factor gs)
+built-up factor [] h = (refl, tt)
+built-up factor (Fir None f down ∷ gs) h = h
+built-up factor (Fir (Some u) f down ∷ gs) h = (refl, h)
+built-up factor (DownCic other stages delay ∷ gs) h = (refl, h)
+built-up factor (UpCic other stages delay ∷ gs) h = (refl, h)
+built-up factor (Rounding shift mode ∷ gs) h = (refl, h)
 
 pub built-groups : (es : List Element) → are_built es ≡ true → AreBuiltGroups (groups es)
 built-groups [] h = tt
-built-groups (Up factor ∷ es) h = absurd (cc)
-built-groups (Down factor ∷ es) h = ((refl, refl), built-groups es h)
+built-groups (Up factor ∷ es) h = built-up (size factor) (groups es) (built-groups es h)
+built-groups (Down factor ∷ es) h = (refl, built-groups es h)
 built-groups (Filter taps Parallel ∷ es) h = built-filter taps (groups es) (built-groups es h)
 built-groups (Filter taps Symmetric ∷ es) h = absurd (cc)
 built-groups (Filter taps HalfBand ∷ es) h = absurd (cc)

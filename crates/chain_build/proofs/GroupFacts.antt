@@ -67,7 +67,7 @@ magnitudes-is [] = refl
 magnitudes-is (c ∷ cs) = ap (λ (n : ℕ). unsigned_abs c + n) (magnitudes-is cs)
 
 pub facts-is : (g : Group) (facts : StageFacts) → IsBuiltGroup g → HasFacts g facts → IsFactsOf g facts
-facts-is (Fir u f d) facts is h = subst (IsFactsOf (Fir u f d)) (sym h) (fir-is u f d is.1)
+facts-is (Fir u f d) facts is h = subst (IsFactsOf (Fir u f d)) (sym h) (fir-is u f d is)
 facts-is (DownCic factor stages delay) facts is h = absurd h
 facts-is (UpCic factor stages delay) facts is h = absurd h
 facts-is (Rounding shift mode) facts is h = subst (IsFactsOf (Rounding shift mode)) (sym h) (rounding-is shift mode)

@@ -1,5 +1,3 @@
-pub mod Convolution
-pub mod OneTapLemmas
 pub mod Walk
 pub mod Spans
 pub mod Grown

@@ -1,5 +1,5 @@
 -- Which plans are built.
-use Rattle.std.specs.Prelude.{◌≡◌, Bool, true, false, List, [], ◌∷◌, None}
+use Rattle.std.specs.Prelude.{◌≡◌, Bool, true, false, List, [], ◌∷◌}
 use Rattle.std.specs.List.{list_all}
 use Rattle.mr_values.specs.declared.plan.Element.{Element}
 use Rattle.mr_values.specs.declared.plan.Element.TheVariants.{Up, Down, Filter, CicDown, CicUp, Round}
@@ -16,7 +16,7 @@ is_parallel (Distributed group) = false
 
 -- an element that is built
 abbrev pub is_built : Element → Bool
-is_built (Up factor) = false
+is_built (Up factor) = true
 is_built (Down factor) = true
 is_built (Filter taps form) = is_parallel form
 is_built (CicDown factor stages delay) = false
@@ -29,7 +29,7 @@ are_built elements = list_all is_built elements
 
 -- a group of elements that are built
 abbrev pub IsBuiltGroup : Group → Type 0
-IsBuiltGroup (Fir up filter down) = (up ≡ None) × (form_of filter ≡ Parallel)
+IsBuiltGroup (Fir up filter down) = form_of filter ≡ Parallel
 IsBuiltGroup (DownCic factor stages delay) = ⊥
 IsBuiltGroup (UpCic factor stages delay) = ⊥
 IsBuiltGroup (Rounding shift mode) = Unit {0}

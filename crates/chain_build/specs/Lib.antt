@@ -1,5 +1,4 @@
 pub mod Added
 pub mod Built
 pub mod ChainNet
-pub mod OneTap
 pub mod Output

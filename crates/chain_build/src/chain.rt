@@ -34,8 +34,8 @@ fn can_add(element: &Element) -> bool
 {
     match element {
         Element::Filter { form, .. } => is_parallel(*form),
-        Element::Down { .. } | Element::Round { .. } => true,
-        Element::Up { .. } | Element::CicDown { .. } | Element::CicUp { .. } => false,
+        Element::Up { .. } | Element::Down { .. } | Element::Round { .. } => true,
+        Element::CicDown { .. } | Element::CicUp { .. } => false,
     }
 }
 

@@ -1,17 +1,7 @@
 -- The writes of `compile`.
-use Rattle.std.proofs.Common.{◌≡◌, ◌⊎◌, ℕ, zero, suc, ◌<◌, ◌≤◌, ◌^◌, ℤ, pos, List, [], ◌∷◌, length, slice_index_or, Some, Result, Ok, Err, inl, inr, ap, ◌∙◌, sym, subst, refl, arith}
-use Rattle.std.specs.Prelude.{◌≢◌}
-use Rattle.std.proofs.lemmas.Bool.{cases_lt}
+use Rattle.std.proofs.Common.{◌≡◌, ◌⊎◌, ℕ, ◌<◌, ◌≤◌, ◌^◌, List, [], ◌∷◌, length, true, false, Some, Result, Ok, Err, inl, inr, ap, ◌∙◌, sym, subst, refl, arith}
 use Rattle.std.specs.FinMap.{get, insert}
-use Rattle.mr_values.specs.declared.plan.Element.TheVariants.{Filter}
-use Rattle.mr_values.specs.declared.plan.Form.{Form}
-use Rattle.mr_values.specs.declared.plan.Form.TheVariants.{Parallel}
-use Rattle.chain_build.specs.declared.one_tap.OneTap.{OneTap}
-use Rattle.chain_build.specs.OneTap.{IsOneTap}
 use Rattle.filter_text.specs.Headline.{IsTextOf}
-use Rattle.filter_core.specs.FirstPlan.{IsFirstPlan}
-use Rattle.filter_core.specs.SingleTap.{IsSingleTap}
-use Rattle.filter_core.specs.PlanMeanings.{plan_view}
 use Rattle.filter_core.specs.Report.{report_text}
 use Rattle.mr_values.specs.Files.{Files}
 use Rattle.mr_values.specs.Host.{HostState, left_of}
@@ -20,51 +10,39 @@ use Rattle.filter_core.specs.declared.fault.Fault.{Fault}
 use Rattle.filter_core.specs.declared.fault.Fault.TheVariants.{HostFault, Memory, PlanRead, NotBuilt}
 use Rattle.filter_core.specs.declared.fault.Fault.TheVariants as fault
 use Rattle.filter_core.specs.WholeFiles.{WriteAnswer, IsEmptied, HoldsFront, HoldsPart}
-use Rattle.mr_values.specs.declared.plan.Plan.{Plan}
-use Rattle.mr_values.specs.declared.plan.Element.{Element}
-use Rattle.filter_core.specs.PlanFile.{AcceptAnswer, SaysAccepted}
-use Rattle.filter_core.specs.Compile.{IsBuiltFile, AreOutputs, IsReadToEnd, CompileEnds}
-
--- past its end a list has 0
-past_end : (xs : List ℤ) (k : ℕ) → length xs ≤ k → slice_index_or xs k (pos 0) ≡ pos 0
-past_end [] k high = refl
-past_end (x ∷ xs) zero high = absurd (omega arith)
-past_end (x ∷ xs) (suc k) high = past_end xs k (omega arith)
-
--- the taps of a first plan, as the net of one tap asks
-one_tap : (taps : List ℤ) (count place shift : ℕ) → length taps ≡ count → IsSingleTap taps place shift → IsOneTap taps count place shift
-one_tap taps count place shift many single = record {
-  many = many;
-  power = single.power;
-  others = λ k apart. other k apart (cases_lt k (length taps));
-}
-  where
-    other : (k : ℕ) → (k ≢ place) → (k < length taps) ⊎ (length taps ≤ k) → slice_index_or taps k (pos 0) ≡ pos 0
-    other k apart (inl low) = single.others k low apart
-    other k apart (inr high) = past_end taps k high
+use Rattle.mr_values.specs.Value.{size}
+use Rattle.chain_build.specs.Built.{are_built}
+use Rattle.filter_core.specs.declared.accept.AcceptedPlan.{AcceptedPlan}
+use Rattle.filter_core.specs.PlanFile.{AcceptAnswer, IsAcceptedPlan}
+use Rattle.filter_core.specs.Compile.{IsBuiltFile, IsUnbuiltFile, AreOutputs, IsReadToEnd, CompileEnds}
 
 -- a plan that is there, accepted and built
-pub built_of : (plan : List ℕ) (files : Files) (bytes : List ℕ) (accepted : Plan) (found : OneTap) → get files plan ≡ Some bytes → length bytes ≤ 2 ^ 20 → SaysAccepted bytes accepted → IsFirstPlan accepted (plan_view found)
-    → IsBuiltFile plan files (plan_view found)
-built_of plan files bytes accepted found there short says first = record {
-  plan = accepted;
-  accepted = record { bytes = bytes; has = record { there = there; short = short }; accepted = says };
-  built = first;
+pub built_of : (plan : List ℕ) (files : Files) (bytes : List ℕ) (accepted : AcceptedPlan) → get files plan ≡ Some bytes → length bytes ≤ 2 ^ 20 → IsAcceptedPlan bytes accepted → are_built accepted.plan.elements ≡ true → IsBuiltFile plan files
+built_of plan files bytes accepted there short says built = record {
+  plan = accepted.plan;
+  accepted = record { bytes = bytes; has = record { there = there; short = short }; accepted = says.says };
+  built = built;
 }
 
 -- a text and a report of a plan that is built
-pub outputs_of : (plan : List ℕ) (files : Files) (text lines : List ℕ) (found : OneTap) → IsBuiltFile plan files (plan_view found)
-    → ((taps : List ℤ) (form : Form) → IsOneTap taps found.count found.place found.shift → IsTextOf (Filter taps form ∷ []) found.width 1 2 1 text)
-    → lines ≡ report_text (plan_view found) → AreOutputs plan files text lines
-outputs_of plan files text lines found built shows is =
-    let first = built.built in
-    let text_is = shows first.taps Parallel (one_tap first.taps found.count found.place found.shift first.count first.single) in
-    record {
-      first = plan_view found;
-      built = built;
-      shows = subst (λ (elements : List Element). IsTextOf elements found.width 1 2 1 text) (sym first.elements) text_is;
-      lines = is;
-    }
+pub outputs_of : (plan : List ℕ) (files : Files) (bytes text lines : List ℕ) (accepted : AcceptedPlan) → get files plan ≡ Some bytes → length bytes ≤ 2 ^ 20 → IsAcceptedPlan bytes accepted → are_built accepted.plan.elements ≡ true
+    → IsTextOf accepted.plan.elements (size accepted.plan.width) (size accepted.plan.ticks) accepted.facts.latency accepted.facts.period text → lines ≡ report_text accepted.facts → AreOutputs plan files text lines
+unfolding built_of
+outputs_of plan files bytes text lines accepted there short says built shows is = record {
+  built = built_of plan files bytes accepted there short says built;
+  facts = accepted.facts;
+  are_facts = says.are_facts;
+  shows = shows;
+  lines = is;
+}
+
+-- a plan that is there and accepted, and not built
+pub unbuilt_of : (plan : List ℕ) (files : Files) (bytes : List ℕ) (accepted : AcceptedPlan) → get files plan ≡ Some bytes → length bytes ≤ 2 ^ 20 → IsAcceptedPlan bytes accepted → are_built accepted.plan.elements ≡ false → IsUnbuiltFile plan files
+unbuilt_of plan files bytes accepted there short says other = record {
+  plan = accepted.plan;
+  accepted = record { bytes = bytes; has = record { there = there; short = short }; accepted = says.says };
+  other = other;
+}
 
 -- PLAN was read, and then nothing was read again
 pub read_to_end : (plan : List ℕ) (old read now : HostState) → read.files ≡ old.files → read.input ≡ plan → left_of read ≡ [] → now.input ≡ read.input → now.place ≡ read.place → IsReadToEnd plan old now

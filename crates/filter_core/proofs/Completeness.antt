@@ -1,5 +1,5 @@
 -- A command whose files are there and accepted is done, unless a host call or memory fails.
-use Rattle.std.proofs.Common.{◌≡◌, ◌<◌, ◌≤◌, ◌^◌, ℕ, zero, suc, slice_index_or, List, [], ◌∷◌, length, Some, None, Result, Ok, Err, IsOkUnless, inl, inr, sym, ◌∙◌, subst, arith, refl}
+use Rattle.std.proofs.Common.{◌≡◌, ◌<◌, ◌≤◌, ◌^◌, ℕ, zero, suc, slice_index_or, List, [], ◌∷◌, length, Some, None, Result, Ok, Err, IsOkUnless, inl, inr, sym, ap, true, false, ◌∙◌, subst, arith, refl}
 use Rattle.std.proofs.lemmas.Option.{same_Some}
 use Rattle.std.specs.FinMap.{get}
 use Rattle.mr_values.specs.Faults.{IsRisen}
@@ -9,7 +9,7 @@ use Rattle.filter_core.specs.declared.fault.Fault.{Fault}
 use Rattle.filter_core.specs.declared.fault.Fault.TheVariants.{HostFault, Memory, FileTooLong, PlanRead, NotBuilt}
 use Rattle.filter_core.specs.declared.fault.Fault.TheVariants as fault
 use Rattle.filter_core.specs.declared.fault.FileKind.TheVariants.{Plan}
-use Rattle.filter_core.specs.FirstPlan.{FirstPlan, IsFirstPlan}
+use Rattle.chain_build.specs.Built.{are_built}
 use Rattle.filter_core.specs.Ends.{IsStruckFor, IsMissing, call_of}
 use Rattle.filter_core.specs.CommandWords.{CommandWords, compile_words}
 use Rattle.filter_core.specs.Tool.{CommandEnds}
@@ -55,24 +55,26 @@ names_no_files name files plan accepted others =
     let same : accepted.bytes ≡ others.bytes = same_bytes name files accepted.bytes others.bytes accepted.has.there others.has.there in
     files_arent_none others.bytes plan others.files_named (subst (λ (bytes : List ℕ). SaysPlan bytes plan) same accepted.accepted.says)
 
-is_built : (name : List ℕ) (files : Files) (first : FirstPlan) → IsBuiltFile name files first → IsUnbuiltFile name files → ⊥
-is_built name files first built other =
+is_built : (name : List ℕ) (files : Files) → IsBuiltFile name files → IsUnbuiltFile name files → ⊥
+is_built name files built other =
     let same : built.accepted.bytes ≡ other.accepted.bytes = same_bytes name files built.accepted.bytes other.accepted.bytes built.accepted.has.there other.accepted.has.there in
     let one = same_plan other.accepted.bytes built.plan other.plan (subst (λ (bytes : List ℕ). SaysPlan bytes built.plan) same built.accepted.accepted.says) other.accepted.accepted.says in
-    other.other first (subst (λ (p : Plan_). IsFirstPlan p first) one built.built)
+    let is : are_built other.plan.elements ≡ true = ap (λ (p : Plan_). are_built p.elements) (sym one) ∙ built.built in
+    let isnt = other.other in
+    absurd (cc)
 
 pub compile-complete : (plan text report : List ℕ) (result : Result (Unit {0}) Fault) (old new : HostState) → IsStruckFor (plan ∷ []) (call_of result) old new → CompileEnds plan text report result old new
-    → (first : FirstPlan) → IsBuiltFile plan old.files first → ¬ IsRisen old.struck new.struck → IsOkUnless result Memory
-compile-complete plan text report (Ok unit) old new struck ends first built unstruck = tt
-compile-complete plan text report (Err Memory) old new struck ends first built unstruck = refl
-compile-complete plan text report (Err (HostFault call)) old new (inl risen) ends first built unstruck = absurd (unstruck risen)
-compile-complete plan text report (Err (HostFault call)) old new (inr missing) ends first built unstruck = absurd (there_isnt_missing _ _ _ built.accepted.has.there missing.1)
-compile-complete plan text report (Err (FileTooLong Plan)) old new struck ends first built unstruck = absurd (isnt_long plan old.files built.plan built.accepted ends.0)
-compile-complete plan text report (Err (PlanRead why)) old new struck ends first built unstruck = absurd (is_read plan old.files built.plan why built.accepted ends.0)
-compile-complete plan text report (Err (fault.Plan why)) old new struck ends first built unstruck = absurd (passes_all plan old.files built.plan why built.accepted ends.0)
-compile-complete plan text report (Err NotBuilt) old new struck (inl other, unchanged) first built unstruck = absurd (is_built plan old.files first built other)
-compile-complete plan text report (Err NotBuilt) old new struck (inr others, unchanged) first built unstruck = absurd (names_no_files plan old.files built.plan built.accepted others)
-compile-complete plan text report (Err _) old new struck ends first built unstruck = absurd ends
+    → IsBuiltFile plan old.files → ¬ IsRisen old.struck new.struck → IsOkUnless result Memory
+compile-complete plan text report (Ok unit) old new struck ends built unstruck = tt
+compile-complete plan text report (Err Memory) old new struck ends built unstruck = refl
+compile-complete plan text report (Err (HostFault call)) old new (inl risen) ends built unstruck = absurd (unstruck risen)
+compile-complete plan text report (Err (HostFault call)) old new (inr missing) ends built unstruck = absurd (there_isnt_missing _ _ _ built.accepted.has.there missing.1)
+compile-complete plan text report (Err (FileTooLong Plan)) old new struck ends built unstruck = absurd (isnt_long plan old.files built.plan built.accepted ends.0)
+compile-complete plan text report (Err (PlanRead why)) old new struck ends built unstruck = absurd (is_read plan old.files built.plan why built.accepted ends.0)
+compile-complete plan text report (Err (fault.Plan why)) old new struck ends built unstruck = absurd (passes_all plan old.files built.plan why built.accepted ends.0)
+compile-complete plan text report (Err NotBuilt) old new struck (inl other, unchanged) built unstruck = absurd (is_built plan old.files built other)
+compile-complete plan text report (Err NotBuilt) old new struck (inr others, unchanged) built unstruck = absurd (names_no_files plan old.files built.plan built.accepted others)
+compile-complete plan text report (Err _) old new struck ends built unstruck = absurd ends
 
 pub noble-complete : (plan out : List ℕ) (result : Result (Unit {0}) Fault) (old new : HostState) → IsStruckFor (plan ∷ []) (call_of result) old new → NobleEnds plan out result old new
     → (meaning : Plan_) → IsAcceptedFile plan old.files meaning → ¬ IsRisen old.struck new.struck → IsOkUnless result Memory

@@ -1,5 +1,5 @@
 -- What `compile` writes, and what its answers mean.
-use Rattle.std.specs.Prelude.{◌≡◌, ◌⊎◌, ℕ, List, [], drop, Result, Ok, Err}
+use Rattle.std.specs.Prelude.{◌≡◌, ◌⊎◌, ℕ, List, [], drop, true, false, Result, Ok, Err}
 use Rattle.std.specs.FinMap.{insert}
 use Rattle.mr_values.specs.Files.{Files, bytes_of}
 use Rattle.mr_values.specs.Host.{HostState}
@@ -10,23 +10,26 @@ use Rattle.filter_core.specs.declared.fault.Fault.TheVariants.{HostFault, Memory
 use Rattle.filter_core.specs.declared.fault.Fault.TheVariants as fault
 use Rattle.filter_core.specs.declared.fault.FileKind.TheVariants.{Plan}
 use Rattle.mr_values.specs.declared.plan.Plan.{Plan as ChainPlan}
+use Rattle.mr_values.specs.Value.{size}
+use Rattle.plan_check.specs.declared.facts.Facts.{Facts}
+use Rattle.plan_check.specs.Accepted.{AreFacts}
+use Rattle.chain_build.specs.Built.{are_built}
 use Rattle.filter_text.specs.Headline.{IsTextOf}
-use Rattle.filter_core.specs.FirstPlan.{FirstPlan, IsFirstPlan}
 use Rattle.filter_core.specs.PlanFile.{IsTooLong, IsAcceptedFile, IsUnreadFile, IsUnacceptedFile, HasTapFiles}
 use Rattle.filter_core.specs.Report.{report_text}
 use Rattle.filter_core.specs.WholeFiles.{IsEmptied, HoldsFront, HoldsPart}
 
--- PLAN is accepted, and built as this plan
-pub record IsBuiltFile (name : List ℕ) (files : Files) (first : FirstPlan) : Type 0 where
+-- PLAN is accepted, and its elements are built
+pub record IsBuiltFile (name : List ℕ) (files : Files) : Type 0 where
   pub plan : ChainPlan
   pub accepted : IsAcceptedFile name files plan
-  pub built : IsFirstPlan plan first
+  pub built : are_built plan.elements ≡ true
 
--- PLAN is accepted, and no plan that is built
+-- PLAN is accepted, and has an element that isn't built
 pub record IsUnbuiltFile (name : List ℕ) (files : Files) : Type 0 where
   pub plan : ChainPlan
   pub accepted : IsAcceptedFile name files plan
-  pub other : (first : FirstPlan) → ¬ IsFirstPlan plan first
+  pub other : are_built plan.elements ≡ false
 
 -- PLAN is no plan that is built yet: it is another plan, or it has tap files
 abbrev pub IsNotBuilt : List ℕ → Files → Type 0
@@ -37,13 +40,14 @@ pub record IsReadToEnd (plan : List ℕ) (old new : HostState) : Type 0 where
   pub input : new.input ≡ plan
   pub end : drop new.place (bytes_of old.files plan) ≡ []
 
--- What TEXT and REPORT are to hold: a text that reads as a module which shows the plan's chain, at latency 2 and period 1,
--- and the lines of the report.
+-- What TEXT and REPORT are to hold: a text that reads as a module which shows the plan's chain, at its latency and period, and the
+-- lines of the report, which tell these.
 pub record AreOutputs (plan : List ℕ) (files : Files) (text report : List ℕ) : Type 0 where
-  pub first : FirstPlan
-  pub built : IsBuiltFile plan files first
-  pub shows : IsTextOf built.plan.elements first.width 1 2 1 text
-  pub lines : report ≡ report_text first
+  pub built : IsBuiltFile plan files
+  pub facts : Facts
+  pub are_facts : AreFacts (size built.plan.width) (size built.plan.ticks) built.plan.elements facts
+  pub shows : IsTextOf built.plan.elements (size built.plan.width) (size built.plan.ticks) facts.latency facts.period text
+  pub lines : report ≡ report_text facts
 
 -- TEXT and REPORT hold these bytes, and no other file has changed
 abbrev pub HoldsBoth : List ℕ → List ℕ → List ℕ → List ℕ → Files → Files → Type 0

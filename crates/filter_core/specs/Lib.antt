@@ -1,10 +1,7 @@
 pub mod Ends
 pub mod WholeFiles
-pub mod SingleTap
 pub mod PlanFaults
 pub mod PlanFile
-pub mod FirstPlan
-pub mod PlanMeanings
 pub mod Report
 pub mod CommandWords
 pub mod Compile

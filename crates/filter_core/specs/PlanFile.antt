@@ -4,11 +4,13 @@ use Rattle.std.specs.FinMap.{get}
 use Rattle.mr_values.specs.Files.{Files}
 use Rattle.mr_values.specs.declared.plan.Plan.{Plan}
 use Rattle.plan_check.specs.declared.fault.PlanFault.{PlanFault}
-use Rattle.plan_check.specs.Accepted.{first_fault, IsAccepted}
+use Rattle.mr_values.specs.Value.{size}
+use Rattle.plan_check.specs.Accepted.{first_fault, IsAccepted, AreFacts}
 use Rattle.plan_reader.specs.declared.fault.PlanReadFault.{PlanReadFault}
 use Rattle.plan_reader.specs.declared.fault.PlanReadFault.TheVariants as reading
 use Rattle.plan_reader.specs.declared.plan_texts.PlanText.{PlanText}
 use Rattle.plan_reader.specs.Documents.{Says, IsRefusedFor}
+use Rattle.filter_core.specs.declared.accept.AcceptedPlan.{AcceptedPlan}
 use Rattle.filter_core.specs.declared.fault.Fault.{Fault}
 use Rattle.filter_core.specs.declared.fault.Fault.TheVariants as fault
 
@@ -54,9 +56,14 @@ pub record SaysAccepted (bytes : List ℕ) (plan : Plan) : Type 0 where
   pub says : SaysPlan bytes plan
   pub accepted : IsAccepted plan
 
+-- the bytes say a plan that is accepted, and these are its facts
+pub record IsAcceptedPlan (bytes : List ℕ) (accepted : AcceptedPlan) : Type 0 where
+  pub says : SaysAccepted bytes accepted.plan
+  pub are_facts : AreFacts (size accepted.plan.width) (size accepted.plan.ticks) accepted.plan.elements accepted.facts
+
 -- what is answered for these bytes
-abbrev pub AcceptAnswer : List ℕ → Result Plan Fault → Type 0
-AcceptAnswer bytes (Ok plan) = SaysAccepted bytes plan
+abbrev pub AcceptAnswer : List ℕ → Result AcceptedPlan Fault → Type 0
+AcceptAnswer bytes (Ok accepted) = IsAcceptedPlan bytes accepted
 AcceptAnswer bytes (Err (fault.PlanRead why)) = IsUnread bytes why
 AcceptAnswer bytes (Err (fault.Plan why)) = IsUnaccepted bytes why
 AcceptAnswer bytes (Err fault.NotBuilt) = SaysFiles bytes

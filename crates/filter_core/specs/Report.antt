@@ -1,10 +1,10 @@
--- The report of a plan of one parallel filter with one tap that isn't 0.
-use Rattle.std.specs.Prelude.{ℕ, ◌+◌, List, ◌++◌, codes, decimal}
-use Rattle.filter_core.specs.FirstPlan.{FirstPlan}
+-- The report of a plan.
+use Rattle.std.specs.Prelude.{ℕ, List, ◌++◌, codes, decimal}
+use Rattle.mr_values.specs.Timing.{wide}
+use Rattle.plan_check.specs.declared.facts.Facts.{Facts}
 
--- the bits of the output: the least number that holds every sample times the tap
-abbrev pub output_width : FirstPlan → ℕ
-output_width plan = plan.width + plan.shift
-
-abbrev pub report_text : FirstPlan → List ℕ
-report_text plan = codes "latency 2\nperiod 1\nbound 0\nshift 0\noutput " ++ decimal (output_width plan) ++ codes "\n"
+-- the tick of the first output, the ticks from one to the next, the bound and the shift, and the bits of an output
+abbrev pub report_text : Facts → List ℕ
+report_text facts =
+    codes "latency " ++ decimal facts.latency ++ codes "\nperiod " ++ decimal facts.period ++ codes "\nbound " ++ decimal facts.bound ++ codes "\nshift " ++ decimal facts.shift
+    ++ codes "\noutput " ++ decimal (wide facts.end_lo facts.end_hi) ++ codes "\n"

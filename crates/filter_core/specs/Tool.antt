@@ -5,7 +5,6 @@ use Rattle.mr_values.specs.Host.{HostState}
 use Rattle.filter_core.specs.declared.fault.Fault.{Fault}
 use Rattle.filter_core.specs.declared.fault.Fault.TheVariants.{Usage, NotBuilt}
 use Rattle.filter_core.specs.CommandWords.{CommandWords, compile_words, noble_words}
-use Rattle.filter_core.specs.FirstPlan.{FirstPlan}
 use Rattle.mr_values.specs.declared.plan.Plan.{Plan}
 use Rattle.filter_core.specs.PlanFile.{IsAcceptedFile}
 use Rattle.filter_core.specs.Noble.{NobleEnds}
@@ -31,7 +30,7 @@ CommandEnds _ result old new = (result ≡ Err NotBuilt) × (new ≡ old)
 
 -- the files that a command reads are there and accepted
 abbrev pub IsReady : CommandWords → Files → Type 0
-IsReady (compile_words plan text report) files = (first : FirstPlan) × IsBuiltFile plan files first
+IsReady (compile_words plan text report) files = IsBuiltFile plan files
 IsReady (noble_words plan out) files = (meaning : Plan) × IsAcceptedFile plan files meaning
 IsReady _ files = ⊥
 

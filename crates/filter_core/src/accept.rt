@@ -5,13 +5,20 @@ ghost use Rattle.filter_core.specs.PlanFaults.{fault_of_reading, fault_of_check}
 
 use crate::Fault;
 use mr_values::Plan;
-use plan_check::{PlanFault, check_plan};
+use plan_check::{Facts, PlanFault, check_plan};
 use plan_reader::{PlanReadFault, PlanText, read_plan};
 use std::alloc::Global;
 
+/// A plan that is accepted, and its facts.
+#[derive(Drop)]
+pub struct AcceptedPlan {
+    pub plan: Plan,
+    pub facts: Facts,
+}
+
 /// The plan that a plan file says, where it is accepted. Fails with the first test that it doesn't pass, with `NotBuilt`
 /// where it names tap files, and for want of memory.
-pub fn accept_plan(alloc: Global, bytes: &[u8]) -> Result<Plan, Fault>
+pub fn accept_plan(alloc: Global, bytes: &[u8]) -> Result<AcceptedPlan, Fault>
     ensures { AcceptAnswer bytes.now result }
 {
     let text = match read_plan(alloc, bytes) {
@@ -23,7 +30,7 @@ pub fn accept_plan(alloc: Global, bytes: &[u8]) -> Result<Plan, Fault>
         return Err(Fault::NotBuilt);
     }
     match check_plan(alloc, &plan) {
-        Ok(_) => Ok(plan),
+        Ok(facts) => Ok(AcceptedPlan { plan, facts }),
         Err(why) => Err(fault_of_check(why)),
     }
 }

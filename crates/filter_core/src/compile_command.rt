@@ -5,10 +5,10 @@ ghost use Rattle.filter_core.specs.Compile.{CompileEnds};
 
 use crate::accept::accept_plan;
 use crate::files::{read_file, write_file};
-use crate::first_plan::first_plan;
 use crate::report::report_text;
 use crate::{Fault, FileKind};
-use filter_text::one_tap_text;
+use chain_build::can_build;
+use filter_text::chain_text;
 use mr_values::Host;
 use std::alloc::Global;
 
@@ -31,11 +31,11 @@ pub fn compile<H: Host>(
 {
     let bytes = read_file(alloc, host, plan, FileKind::Plan, PLAN_LIMIT)?;
     let accepted = accept_plan(alloc, &bytes)?;
-    let Some(found) = first_plan(&accepted) else {
+    if !can_build(&accepted.plan) {
         return Err(Fault::NotBuilt);
-    };
-    let module = one_tap_text(alloc, found)?;
-    let lines = report_text(alloc, found)?;
+    }
+    let module = chain_text(alloc, &accepted.plan, &accepted.facts)?;
+    let lines = report_text(alloc, &accepted.facts)?;
     match write_file(host, text, &module) {
         Ok(()) => write_file(host, report, &lines),
         Err(fault) => Err(fault),

@@ -4,7 +4,7 @@ ghost use Rattle.plan_check.specs.Accepted.{IsAccepted};
 ghost use Rattle.filter_core.specs.Ends.{EndsWith, call_of};
 ghost use Rattle.filter_core.specs.Noble.{IsRewriting, NobleEnds};
 
-use crate::accept::accept_plan;
+use crate::accept::{AcceptedPlan, accept_plan};
 use crate::compile_command::PLAN_LIMIT;
 use crate::files::{read_file, write_file};
 use crate::{Fault, FileKind};
@@ -23,7 +23,11 @@ pub fn noble<H: Host>(alloc: Global, plan: &str, out: &str, host: &mut H) -> Res
 {
     let bytes = read_file(alloc, host, plan, FileKind::Plan, PLAN_LIMIT)?;
     let accepted = accept_plan(alloc, &bytes)?;
-    let text = rewritten_text(alloc, accepted)?;
+    let AcceptedPlan {
+        plan: meaning,
+        facts: _facts,
+    } = accepted;
+    let text = rewritten_text(alloc, meaning)?;
     write_file(host, out, &text)
 }
 

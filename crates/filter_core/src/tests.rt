@@ -5,9 +5,10 @@ use plan_reader::read_plan;
 use std::alloc::Global;
 use std::test::Fail;
 
-const PLAN: &[u8] = b"version = 1\nwidth = 4\n[[element]]\nkind = \"filter\"\ntaps = [0, 4]\n";
+const PLAN: &[u8] =
+    b"version = 1\nwidth = 4\n[[element]]\nkind = \"filter\"\ntaps = [3]\n[[element]]\nkind = \"round\"\nshift = 1\nmode = \"half_up\"\n[[element]]\nkind = \"filter\"\ntaps = [5]\n[[element]]\nkind = \"round\"\nshift = 2\nmode = \"floor\"\n";
 
-const REPORT: &[u8] = b"latency 2\nperiod 1\nbound 0\nshift 0\noutput 6\n";
+const REPORT: &[u8] = b"latency 7\nperiod 1\nbound 11\nshift 3\noutput 5\n";
 
 fn host_with(alloc: Global, plan: &[u8]) -> Result<MemoryHost, Fail> {
     let mut host = MemoryHost::new(alloc);
@@ -101,7 +102,7 @@ fn answers_the_first_fault(rt: HostRuntime) -> Result<(), Fail> {
             "Limit element=0 which=Width value=65",
         ),
         (
-            "version = 1\nwidth = 4\n[[element]]\nkind = \"down\"\nfactor = 2",
+            "version = 1\nwidth = 4\n[[element]]\nkind = \"cic_down\"\nfactor = 2\nstages = 1\ndelay = 1",
             "NotBuilt",
         ),
     ] {

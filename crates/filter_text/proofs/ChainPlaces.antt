@@ -11,7 +11,7 @@ use Rattle.net_module.specs.Written.{IsWritable, has_kind, is_output_kind, is_va
 use Rattle.net_module.proofs.Numbers.{first_there}
 use Rattle.pipeline_balance.specs.Numbered.{name_of}
 use Rattle.chain_build.specs.ChainNet.{IsChainNet}
-use Rattle.filter_text.proofs.OneTapPlaces.{output_name, valid_name}
+use Rattle.filter_text.proofs.OutputNames.{output_name, valid_name}
 
 module _ {width ticks : ℕ} {elements : List Element} {cells : List Cell} {out_q out_valid : Node} (net : IsChainNet width ticks elements cells out_q out_valid) where
   valid_there : slice_get cells out_valid.place ≡ Some (cell_at cells out_valid.place)

@@ -1,7 +1,5 @@
 pub mod ReadModules
-pub mod OneTapPlaces
-pub mod OneTapWritable
-pub mod OneTapShows
+pub mod OutputNames
 pub mod ChainLimits
 pub mod ChainOutputs
 pub mod ChainPlaces

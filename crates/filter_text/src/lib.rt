@@ -2,8 +2,6 @@
 #![tactic(auto)]
 
 mod chain;
-mod one_tap;
 mod small;
 
 pub use chain::chain_text;
-pub use one_tap::one_tap_text;

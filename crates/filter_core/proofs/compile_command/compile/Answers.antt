@@ -1,6 +1,7 @@
-use Rattle.std.proofs.Common.{◌∙◌, Err, subst, refl}
+use Rattle.std.proofs.Common.{◌≡◌, ◌∙◌, Err, subst, refl, true, rules}
+use Rattle.chain_build.specs.Built.{are_built}
 use Rattle.filter_core.specs.WholeFiles.{WriteAnswer}
-use Rattle.filter_core.proofs.CompileSteps.{built_of, outputs_of, first_write, last_write, read_to_end}
+use Rattle.filter_core.proofs.CompileSteps.{outputs_of, first_write, last_write, read_to_end}
 use Rattle.filter_core.proofs.compile_command.compile.Goals as goal
 
 pub returns-in-Ok-clause-told : goal.returns-in-Ok-clause-told
@@ -11,7 +12,6 @@ returns-in-Ok-clause-told g c = λ told.
     let new = g.H.Host.state c.write_file-in-Ok.new.host in
     let reading = c.in_ok-bytes.ensures.told told in
     let says = rw c.deref.ensures.value at c.in_ok-accepted.ensures in
-    let built = built_of c.args.plan.now old.files c.in_ok-bytes.bytes.items c.in_ok-accepted.accepted c.in-Some.found reading.answer.0 reading.answer.1 says c.in-Some.ensures in
     let told' = c.in_ok-bytes.ensures.cause.same_kind ∙ told in
     let told'' = c.in-Ok.ensures.cause.same_kind ∙ told' in
     let written = c.in-Ok.ensures.told told' in
@@ -19,7 +19,8 @@ returns-in-Ok-clause-told g c = λ told.
     let ended = read_to_end c.args.plan.now old read new reading.files reading.input reading.end (last.input ∙ written.input) (last.place ∙ written.place) in
     let text = c.in_ok-module.module.items in
     let lines = c.in_ok-lines.lines.items in
-    let outputs = outputs_of c.args.plan.now old.files text lines c.in-Some.found built c.in_ok-module.ensures c.in_ok-lines.ensures in
+    let built : are_built c.in_ok-accepted.accepted.plan.elements ≡ true = search rules in
+    let outputs = outputs_of c.args.plan.now old.files c.in_ok-bytes.bytes.items text lines c.in_ok-accepted.accepted reading.answer.0 reading.answer.1 says built c.in_ok-module.ensures c.in_ok-lines.ensures in
     last_write c.args.plan.now c.args.text.now c.args.report.now text lines c.write_file-in-Ok.result old middle new outputs
     ended
     (written.answer ∙ rw (reading.files, c.deref-2.ensures.value) refl)
@@ -32,11 +33,11 @@ returns-clause-told g c = λ told.
     let new = g.H.Host.state c.write_file.new.host in
     let reading = c.in_ok-bytes.ensures.told told in
     let says = rw c.deref.ensures.value at c.in_ok-accepted.ensures in
-    let built = built_of c.args.plan.now old.files c.in_ok-bytes.bytes.items c.in_ok-accepted.accepted c.in-Some.found reading.answer.0 reading.answer.1 says c.in-Some.ensures in
     let told' = c.in_ok-bytes.ensures.cause.same_kind ∙ told in
     let text = c.in_ok-module.module.items in
     let lines = c.in_ok-lines.lines.items in
-    let outputs = outputs_of c.args.plan.now old.files text lines c.in-Some.found built c.in_ok-module.ensures c.in_ok-lines.ensures in
+    let built : are_built c.in_ok-accepted.accepted.plan.elements ≡ true = search rules in
+    let outputs = outputs_of c.args.plan.now old.files c.in_ok-bytes.bytes.items text lines c.in_ok-accepted.accepted reading.answer.0 reading.answer.1 says built c.in_ok-module.ensures c.in_ok-lines.ensures in
     first_write c.args.plan.now c.args.text.now c.args.report.now text lines c.in-Err.fault old read new outputs
     reading.files
     (subst (λ bytes. WriteAnswer c.args.text.now bytes (Err c.in-Err.fault) read.files new.files) c.deref-2.ensures.value (c.in-Err.ensures.told told').answer)

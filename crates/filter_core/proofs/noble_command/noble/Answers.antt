@@ -15,6 +15,6 @@ returns-clause-told g c = λ told.
     let written = c.write_file.ensures.told told' in
     let ended = read_to_end c.args.plan.now old read new reading.files reading.input reading.end written.input written.place in
     let text = c.in_ok-text.text.items in
-    let output = output_of c.args.plan.now old.files c.in_ok-bytes.bytes.items text c.in_ok-accepted.accepted reading.answer.0 reading.answer.1 says c.in_ok-text.ensures in
+    let output = output_of c.args.plan.now old.files c.in_ok-bytes.bytes.items text c.in_ok-accepted.accepted.plan reading.answer.0 reading.answer.1 says.says c.in_ok-text.ensures in
     out_written c.args.plan.now c.args.out.now text c.write_file.result old read new output ended reading.files
     (subst (λ (bytes : List ℕ). WriteAnswer c.args.out.now bytes c.write_file.result read.files new.files) c.deref-2.ensures.value written.answer)

@@ -9,7 +9,7 @@ returns-in-Compile-clause-complete g c = λ told ready unstruck.
     let old = g.H.Host.state c.args.host.now in
     let new = g.H.Host.state c.compile.new.host in
     let accepted = subst (λ command. IsReady (words_of command) old.files) c.in-Compile.is ready in
-    compile-complete c.in-Compile.plan.now c.in-Compile.text.now c.in-Compile.report.now c.compile.result old new (c.compile.ensures.cause.struck told) (c.compile.ensures.told told) accepted.0 accepted.1 unstruck
+    compile-complete c.in-Compile.plan.now c.in-Compile.text.now c.in-Compile.report.now c.compile.result old new (c.compile.ensures.cause.struck told) (c.compile.ensures.told told) accepted unstruck
 
 pub returns-in-Noble-clause-complete : goal.returns-in-Noble-clause-complete
 returns-in-Noble-clause-complete g c = λ told ready unstruck.

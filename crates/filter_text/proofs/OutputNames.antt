@@ -1,20 +1,14 @@
--- Where the output and the shown bit stand in the net of one tap.
+-- The names of the output and of the shown bit.
 use Rattle.std.proofs.Common.{◌≡◌, ℕ, true, false, List, length, Option, Some, None, slice_get, refl, sym, ◌∙◌, ap, subst}
-use Rattle.net_graph.specs.declared.cell.Cell.{Cell}
 use Rattle.net_graph.specs.declared.cell.Node.{Node}
 use Rattle.net_graph.specs.declared.cell.Item.{Item}
 use Rattle.net_graph.specs.declared.cell.Item.TheVariants.{Input, Constant, Add, Sub, Shl, Shr, Mux, Equal, Bits, Register}
 use Rattle.net_graph.specs.declared.name.Name.{Name}
 use Rattle.net_graph.specs.declared.name.NameKind.{NameKind}
 use Rattle.net_graph.specs.declared.name.NameKind.TheVariants.{Control, Window, Copy, PreAdder, Register as Other, Table, Output, Valid}
-use Rattle.net_graph.specs.Cells.{cell_at}
-use Rattle.net_graph.specs.Name.{is_input}
-use Rattle.net_graph.specs.WellFormed.{IsNetlist, IsNamed}
-use Rattle.net_graph.proofs.CellLemmas.{cell_at-there, cell_at-is}
-use Rattle.net_module.specs.Written.{IsWritable, HasNode, has_kind, is_output_kind, is_valid_kind, input_place, output_place, valid_place}
-use Rattle.net_module.proofs.Numbers.{IsThere, first_there}
+use Rattle.net_graph.specs.WellFormed.{IsNamed}
+use Rattle.net_module.specs.Written.{has_kind, is_output_kind, is_valid_kind}
 use Rattle.pipeline_balance.specs.Numbered.{name_of}
-use Rattle.chain_build.specs.OneTap.{IsOneTapNet}
 
 output_named : (group number : ℕ) (item : Option Item) → IsNamed (Some (name_of group Output number)) item → name_of group Output number ≡ name_of 0 Output 0
 output_named group number None h = rw (h.0, h.1) refl
@@ -70,28 +64,3 @@ output_name (Some name) item h is = ap Some (output_by name.kind name.group name
 pub valid_name : (name : Option Name) (item : Option Item) → IsNamed name item → has_kind is_valid_kind name ≡ true → name ≡ Some (name_of 0 Valid 0)
 valid_name None item h is = absurd (cc)
 valid_name (Some name) item h is = ap Some (valid_by name.kind name.group name.number item h is)
-
-module _ {width count place shift : ℕ} {cells : List Cell} {out_q out_valid : Node} {window : List Node} (net : IsOneTapNet width count place shift cells out_q out_valid window) where
-  valid_there : slice_get cells out_valid.place ≡ Some (cell_at cells out_valid.place)
-  valid_there = cell_at-there cells out_valid.place net.shown_inside
-
-  pub output_is : output_place cells ≡ out_q.place
-  output_is =
-      let r = net.register in
-      let first = first_there (λ (c : Cell). has_kind is_output_kind c.name) cells out_q.place r.cell r.there (ap (has_kind is_output_kind) r.named) in
-      net.netlist.well_formed.apart (output_place cells) out_q.place first.cell r.cell (name_of 0 Output 0) first.there r.there
-      (output_name first.cell.name first.cell.item ((net.netlist.well_formed.each (output_place cells) first.cell first.there).named) first.is_it) r.named
-
-  pub valid_is : valid_place cells ≡ out_valid.place
-  valid_is =
-      let first = first_there (λ (c : Cell). has_kind is_valid_kind c.name) cells out_valid.place (cell_at cells out_valid.place) valid_there (ap (has_kind is_valid_kind) net.shown) in
-      net.netlist.well_formed.apart (valid_place cells) out_valid.place first.cell (cell_at cells out_valid.place) (name_of 0 Valid 0) first.there valid_there
-      (valid_name first.cell.name first.cell.item ((net.netlist.well_formed.each (valid_place cells) first.cell first.there).named) first.is_it) net.shown
-
-  pub input_is : input_place cells ≡ 0
-  input_is =
-      let first = first_there (λ (c : Cell). is_input c.item) cells 0 net.input.cell net.input.there net.input.is_it in
-      net.input.only (input_place cells) first.cell first.there first.is_it
-
-  pub input_width : (cell_at cells (input_place cells)).width ≡ width
-  input_width = ap (λ (k : ℕ). (cell_at cells k).width) input_is ∙ ap (λ (c : Cell). c.width) (cell_at-is cells 0 net.input.cell net.input.there) ∙ net.input.same_width
