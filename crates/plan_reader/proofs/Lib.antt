@@ -2,3 +2,5 @@ mod TableSteps
 mod ElementSteps
 mod PrintSteps
 mod Refusals
+mod TapSteps
+mod TappedSteps

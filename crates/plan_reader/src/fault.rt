@@ -1,6 +1,6 @@
 // Why a plan file or a tap file is refused.
 use mr_values::{Memory, Text};
-use std::alloc::AllocFailed;
+use std::alloc::{AllocError, AllocFailed};
 use thiserror::Error;
 
 /// What is wrong with a field.
@@ -63,5 +63,27 @@ impl<T: Drop> From<AllocFailed<T>> for PlanReadFault {
 
     fn from(_: AllocFailed<T>) -> PlanReadFault {
         PlanReadFault::Memory
+    }
+}
+
+impl From<AllocError> for TapFault {
+    ghost use Rattle.std.specs.Prelude.{◌≡◌};
+    ghost use Rattle.plan_reader.specs.declared.fault.TapFault.TheVariants as fault;
+
+    ghost from_gives = { λ _ found. found ≡ fault.Memory };
+
+    fn from(_: AllocError) -> TapFault {
+        TapFault::Memory
+    }
+}
+
+impl<T: Drop> From<AllocFailed<T>> for TapFault {
+    ghost use Rattle.std.specs.Prelude.{◌≡◌};
+    ghost use Rattle.plan_reader.specs.declared.fault.TapFault.TheVariants as fault;
+
+    ghost from_gives = { λ _ found. found ≡ fault.Memory };
+
+    fn from(_: AllocFailed<T>) -> TapFault {
+        TapFault::Memory
     }
 }
