@@ -1,10 +1,10 @@
 -- A word is ASCII.
-use Rattle.std.proofs.Common.{◌≡◌, ℕ, zero, suc, ◌+◌, ◌<◌, ◌≤◌, Bool, true, false, List, [], ◌∷◌, length, take, drop, get_or, refl, sym, ap, ◌∙◌, subst, arith, inl, inr}
-use Rattle.std.specs.Prelude.{nat_le, ◌==◌, ◌&&◌}
+use Rattle.std.proofs.Common.{◌≡◌, ℕ, zero, suc, ◌+◌, ◌<◌, ◌≤◌, true, false, List, [], ◌∷◌, length, take, drop, get_or, subst, arith, inl, inr}
+use Rattle.std.specs.Prelude.{nat_le}
 use Rattle.std.specs.List.{list_all, prefix_len}
 use Rattle.std.specs.Str.{IsAscii}
 use Rattle.std.proofs.lemmas.Bool.{and_right, and_parts, or_from, lt-leb, ne_eqb, cases_lt}
-use Rattle.verilog_text.specs.Lexer.{is_letter, is_digit, is_name_byte}
+use Rattle.verilog_text.specs.Lexer.{is_letter, is_name_byte}
 use Rattle.verilog_lex.proofs.Longest.{run_passes}
 
 high_no_letter : (b : ℕ) → 128 ≤ b → is_letter b ≡ false

@@ -1,5 +1,5 @@
 -- The longest piece at a place.
-use Rattle.std.proofs.Common.{◌≡◌, ℕ, zero, suc, ◌+◌, ◌<◌, ◌≤◌, Bool, true, false, cond, List, [], ◌∷◌, length, take, drop, Some, None, refl, sym, ap, ◌∙◌, subst, arith, inl, inr, Option}
+use Rattle.std.proofs.Common.{◌≡◌, ℕ, zero, suc, ◌+◌, ◌<◌, ◌≤◌, Bool, true, false, cond, List, [], ◌∷◌, length, take, Some, None, refl, sym, ap, ◌∙◌, arith, inl, inr, Option}
 use Rattle.std.specs.Prelude.{◌==◌, ◌&&◌, not}
 use Rattle.std.specs.List.{list_all, prefix_len}
 use Rattle.std.proofs.Math.Numerals.{one-add}
@@ -8,7 +8,7 @@ use Rattle.std.proofs.lemmas.List.Sums.{prefix_len-le-length}
 use Rattle.std.proofs.lemmas.Bool.{cond-true, cond-false, cond_both, not-true, and_left, and_right, cases_Bool, and_parts}
 use Rattle.verilog_text.specs.Lexer.{Piece, Gap, OutsidePiece, UnreadablePiece, is_letter, is_digit, is_name_byte, is_blank, word_piece, is_nil, is_ended, is_open, slashed, piece_of, IsLongest}
 use Rattle.verilog_lex.specs.Found.{body_len}
-use Rattle.verilog_lex.specs.Best.{IsBest, IsNever}
+use Rattle.verilog_lex.specs.Best.{IsBest}
 
 -- a run of bytes that pass
 run_at : (test : ℕ → Bool) (x : ℕ) (xs : List ℕ) → test x ≡ true → prefix_len test (x ∷ xs) ≡ suc (prefix_len test xs)

@@ -1,14 +1,12 @@
 -- What is known of words, as further words are found.
-use Rattle.std.proofs.Common.{◌≡◌, ℕ, suc, ◌+◌, ◌<◌, ◌≤◌, Bool, true, false, cond, List, [], ◌∷◌, ◌++◌, length, get_or, Option, Some, None, refl, sym, ap, ◌∙◌, subst, arith, inl, inr, length-append}
-use Rattle.std.specs.Str.{bytes_eq, IsAscii}
+use Rattle.std.proofs.Common.{◌≡◌, ℕ, ◌+◌, ◌<◌, true, false, List, [], ◌∷◌, ◌++◌, length, Option, Some, None, refl, sym, ap, ◌∙◌, subst, arith, inl, inr, length-append}
+use Rattle.std.specs.Str.{bytes_eq}
 use Rattle.std.specs.Map.{update}
-use Rattle.std.specs.List.{list_all}
-use Rattle.std.specs.Option.{option_map}
 use Rattle.std.proofs.lemmas.Bool.{cond-true, cond-false, cases_Bool}
 use Rattle.std.proofs.lemmas.Slice.Eq.{bytes_eq-Decides}
 use Rattle.verilog_tree.specs.Renaming.{number_in}
 use Rattle.verilog_text.specs.declared.token.Token.TheVariants as token
-use Rattle.verilog_text.specs.Lexer.{Piece, Gap, NameText, name_unless, word_piece, looked_up, words}
+use Rattle.verilog_text.specs.Lexer.{Gap, NameText, name_unless, word_piece, looked_up, words}
 use Rattle.verilog_text.specs.Names.{Inside, with_name, with_piece, lexeme_in}
 use Rattle.verilog_lex.specs.declared.found.Symbol.{Symbol}
 use Rattle.verilog_lex.specs.declared.found.Symbol.TheVariants as symbol

@@ -1,9 +1,9 @@
 -- The longest literal, by what stands behind its first digits.
-use Rattle.std.proofs.Common.{◌≡◌, ℕ, zero, suc, ◌+◌, ◌-◌, ◌<◌, ◌≤◌, Bool, true, false, cond, List, [], ◌∷◌, length, take, drop, get_or, Option, Some, None, refl, sym, ap, ◌∙◌, subst, arith, inl, inr}
-use Rattle.std.specs.Prelude.{◌==◌, ◌&&◌, ◌||◌, min, ◌^◌, nat_le, nat_lt}
+use Rattle.std.proofs.Common.{◌≡◌, ℕ, zero, suc, ◌<◌, ◌≤◌, Bool, true, false, cond, List, [], ◌∷◌, length, take, Option, Some, None, refl, ap, ◌∙◌, arith}
+use Rattle.std.specs.Prelude.{◌&&◌}
 use Rattle.std.specs.List.{list_all, prefix_len}
-use Rattle.std.proofs.lemmas.Bool.{cond-true, cond-false, and_left, ne_eqb, eq-eqb, cases_Bool, cases_lt}
-use Rattle.verilog_text.specs.Lexer.{Piece, is_letter, is_digit, is_digit_in, is_more_in, base_of, literal_piece, digits_piece, based_piece, sized_piece, behind_digits, decimal_piece, numeral_piece, value_behind, piece_of, IsLongest}
+use Rattle.std.proofs.lemmas.Bool.{cond-false, and_left}
+use Rattle.verilog_text.specs.Lexer.{Piece, is_digit_in, is_more_in, literal_piece, digits_piece}
 use Rattle.verilog_lex.specs.Best.{IsBest, IsNever}
 use Rattle.verilog_lex.proofs.Longest.{run_best}
 

@@ -1,5 +1,5 @@
 -- An expression can end where all that is open folds away.
-use Rattle.std.proofs.Common.{◌≡◌, ℕ, ◌+◌, ◌≤◌, Bool, true, false, List, [], ◌∷◌, refl, ap, ◌∙◌, sym, arith}
+use Rattle.std.proofs.Common.{◌≡◌, ℕ, ◌+◌, Bool, true, false, List, [], ◌∷◌, refl, ap, ◌∙◌, sym, arith}
 use Rattle.std.specs.Prelude.{◌==◌, is_some, nat_le}
 use Rattle.std.proofs.lemmas.Bool.{cond-true, le-leb, ne_eqb}
 use Rattle.verilog_tree.specs.Tree.{Tree, Not, Binary, Choice}

@@ -1,5 +1,5 @@
 -- What the machine for texts holds, without where it lies in memory.
-use Rattle.std.specs.Prelude.{ℕ, ◌<◌, ◌^◌, map}
+use Rattle.std.specs.Prelude.{◌<◌, ◌^◌, map}
 use Rattle.std.specs.Option.{option_map}
 use Rattle.verilog_tree.specs.View.{action_view, assignment_view}
 use Rattle.verilog_text.specs.declared.token.Token.{Token}

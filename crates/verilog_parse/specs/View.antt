@@ -1,6 +1,5 @@
 -- What the machines hold, without where it lies in memory.
-use Rattle.std.specs.Prelude.{◌≡◌, ℕ, ◌+◌, List, [], ◌∷◌, map, reverse, Option, Some, None, Result, Ok, Err}
-use Rattle.verilog_tree.specs.declared.tree.Expr.{Expr}
+use Rattle.std.specs.Prelude.{◌≡◌, ℕ, ◌+◌, List, [], ◌∷◌, map, reverse, Result, Ok, Err}
 use Rattle.verilog_tree.specs.View.{tree_view, trees_view}
 use Rattle.verilog_text.specs.declared.token.Why.{Why}
 use Rattle.verilog_text.specs.Grammar.{Limits}

@@ -1,5 +1,5 @@
 -- The machine's reading of what stands in a text, and the texts of the grammar.
-use Rattle.std.proofs.Common.{◌≡◌, ℕ, suc, ◌+◌, ◌<◌, ◌≤◌, ◌^◌, Bool, true, false, cond, List, [], ◌∷◌, ◌++◌, map, length, drop, get_or, Result, Ok, Err, refl, sym, ap, ◌∙◌, subst, arith, inl, inr, zero}
+use Rattle.std.proofs.Common.{◌≡◌, ℕ, ◌^◌, Bool, true, false, List, [], ◌∷◌, ◌++◌, map, Result, Ok, Err, refl, sym, ap, ◌∙◌, subst, inl, inr}
 use Rattle.std.proofs.lemmas.Bool.{cond-true, cond-false, cases_Bool, ltb-true}
 use Rattle.verilog_tree.specs.Tree.{Design}
 use Rattle.verilog_tree.specs.Renaming.{number_in}
@@ -8,9 +8,9 @@ use Rattle.verilog_text.specs.declared.token.Token.TheVariants as token
 use Rattle.verilog_text.specs.declared.token.Why.{Why}
 use Rattle.verilog_text.specs.declared.token.Why.TheVariants as why
 use Rattle.verilog_text.specs.Grammar.{limits}
-use Rattle.verilog_text.specs.Text.{Text, AreItems, tokens_of, clock_text}
-use Rattle.verilog_text.specs.Lexer.{Piece, Gap, NameText, Fixed, OutsidePiece, UnreadablePiece, Placed, Scans}
-use Rattle.verilog_text.specs.Names.{Lexeme, Inside, Outside, Unreadable, names_behind, lexeme_in, lexemes_of}
+use Rattle.verilog_text.specs.Text.{tokens_of, clock_text}
+use Rattle.verilog_text.specs.Lexer.{Piece, Gap, NameText, Fixed, OutsidePiece, UnreadablePiece, Placed}
+use Rattle.verilog_text.specs.Names.{Lexeme, Inside, Outside, Unreadable, names_behind, lexeme_in}
 use Rattle.verilog_text.specs.TextMachine.{Phase, Start, Naming, Opening, FirstPort, Heading, Listed, NextPort, PortsClosed, AtItem, Targeting, Assigning, Valued, AtEvent, InEvent, OnEdge, AtClock, EventClosed, Running, Done, Draft, State, at, drafted, start, step, run, and_then}
 use Rattle.verilog_text.specs.Reading.{place_of, declares_after, declared_places, Reads}
 use Rattle.verilog_text.proofs.TextSteps.{accepts}

@@ -1,12 +1,12 @@
 -- Where the reading stops, no text of the grammar goes on.
-use Rattle.std.proofs.Common.{◌≡◌, ℕ, Bool, true, false, List, [], ◌∷◌, ◌++◌, map, length, Result, Ok, Err, refl, sym, ap, ◌∙◌, subst, inl, inr}
+use Rattle.std.proofs.Common.{◌≡◌, ℕ, true, false, List, [], ◌∷◌, ◌++◌, map, length, Result, Ok, Err, refl, sym, ap, ◌∙◌, inl, inr}
 use Rattle.std.proofs.lemmas.Bool.{cond-true, cond-false, cases_Bool}
 use Rattle.verilog_tree.specs.Renaming.{number_in}
 use Rattle.verilog_text.specs.declared.token.Token.{Token}
 use Rattle.verilog_text.specs.declared.token.Why.{Why}
 use Rattle.verilog_text.specs.declared.token.Why.TheVariants as why
 use Rattle.verilog_text.specs.Grammar.{limits}
-use Rattle.verilog_text.specs.Text.{Text, AreItems, tokens_of, clock_text}
+use Rattle.verilog_text.specs.Text.{clock_text}
 use Rattle.verilog_text.specs.Lexer.{Placed}
 use Rattle.verilog_text.specs.Names.{Lexeme, Inside, Outside, Unreadable, names_behind}
 use Rattle.verilog_text.specs.TextMachine.{Done, Draft, State, at, drafted, start, step, run, and_then}

@@ -1,5 +1,5 @@
 -- The reading of a whole text as the machine does it, up to the first place that it refuses.
-use Rattle.std.specs.Prelude.{ℕ, ◌<◌, ◌^◌, Bool, true, false, List, [], ◌∷◌, Result, Ok, Err, if◌then◌else◌}
+use Rattle.std.specs.Prelude.{ℕ, Bool, true, false, List, [], ◌∷◌, Result, Ok, Err, if◌then◌else◌}
 use Rattle.verilog_text.specs.declared.token.Why.{Why}
 use Rattle.verilog_text.specs.declared.token.Why.TheVariants as why
 use Rattle.verilog_text.specs.Grammar.{limits}

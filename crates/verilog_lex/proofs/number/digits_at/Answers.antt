@@ -1,4 +1,4 @@
-use Rattle.std.proofs.Common.{◌≡◌, ◌+◌, ℕ, Some, sym, subst, arith, take, drop, length, ap, ◌∙◌}
+use Rattle.std.proofs.Common.{◌≡◌, ◌+◌, ℕ, Some, sym, subst, arith, drop, ap, ◌∙◌}
 use Rattle.std.specs.List.{prefix_len}
 use Rattle.verilog_text.specs.Lexer.{is_more_in, digits_piece}
 use Rattle.verilog_lex.specs.Best.{IsBest}

@@ -1,4 +1,4 @@
-use Rattle.std.proofs.Common.{◌≡◌, ◌+◌, arith, List, ℕ, length, drop}
+use Rattle.std.proofs.Common.{List, ℕ, drop}
 use Rattle.verilog_lex.proofs.Literals.{IsNumber, number_unquoted, number_unsized, number_sized, tail_is, rest_is}
 use Rattle.verilog_lex.proofs.number.numeral_at.Goals as goal
 

@@ -1,5 +1,5 @@
 use Rattle.std.proofs.Common.{List, ℕ, take, drop}
-use Rattle.verilog_text.specs.Lexer.{word_piece, UnreadablePiece}
+use Rattle.verilog_text.specs.Lexer.{word_piece}
 use Rattle.verilog_lex.specs.Found.{symbol_view}
 use Rattle.verilog_lex.proofs.Literals.{rest_is}
 use Rattle.verilog_lex.proofs.Naming.{symbol_no_gap}

@@ -1,4 +1,4 @@
-use Rattle.std.proofs.Common.{◌≡◌, ◌∷◌, [], ◌++◌, false, get_or, refl, arith, ap, ◌∙◌}
+use Rattle.std.proofs.Common.{◌∷◌, [], ◌++◌, false, get_or, refl, arith, ap, ◌∙◌}
 use Rattle.verilog_tree.specs.declared.tree.Kind.TheVariants.{Input}
 use Rattle.verilog_tree.specs.declared.tree.Signal.{Signal}
 use Rattle.verilog_read.proofs.Placing.{signals_more, signals_end}

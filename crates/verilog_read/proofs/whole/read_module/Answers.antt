@@ -1,4 +1,4 @@
-use Rattle.std.proofs.Common.{◌≡◌, List, ℕ, Ok, sym, ap, ◌∙◌, subst, map, length}
+use Rattle.std.proofs.Common.{◌≡◌, List, ℕ, sym, ap, ◌∙◌, subst, map, length}
 use Rattle.verilog_tree.specs.Renaming.{number_in}
 use Rattle.verilog_text.specs.Text.{clock_text}
 use Rattle.verilog_text.specs.TextMachine.{start}

@@ -1,4 +1,4 @@
-use Rattle.std.proofs.Common.{◌≡◌, List, ℕ, ap, sym, ◌∙◌, None}
+use Rattle.std.proofs.Common.{◌≡◌, List, ℕ, ap, sym, ◌∙◌}
 use Rattle.verilog_tree.specs.Renaming.{number_in}
 use Rattle.verilog_text.specs.declared.token.Token.TheVariants as token
 use Rattle.verilog_text.specs.Lexer.{NameText, word_piece, looked_up, words}
