@@ -20,10 +20,12 @@ use Rattle.net_graph.specs.Control.{IsOfControl}
 use Rattle.net_graph.specs.Grow.{Extends, Grows, Adds, IsBoundTo, IsAdded}
 use Rattle.net_graph.proofs.Lists.{slice_get-append_left, slice_get-set_other}
 use Rattle.net_graph.proofs.GroupLemmas.{nameless_zero}
-use Rattle.net_graph.proofs.NetLemmas.{Extends-adds, cell_of_added, cell_of_register}
+use Rattle.net_graph.proofs.NetLemmas.{Extends-adds, cell_of_added, cell_of_register, cell_of_bound}
+use Rattle.net_graph.proofs.CellLemmas.{cell_at-is}
 use Rattle.net_graph.proofs.GrowLemmas.{IsOfControl-later, GrowsBut, GrowsBut-register, GrowsBut-adds, GrowsBut-unbound, Grows-bind, Extends-grown, cell_of_grown}
 use Rattle.pipeline_balance.specs.Numbered.{AddsNext, name_of}
-use Rattle.pipeline_balance.specs.Gate.{IsTickOf, IsCounter}
+use Rattle.pipeline_balance.specs.Gate.{IsTickOf, IsCounter, AddsCount}
+use Rattle.pipeline_balance.specs.Bits.{IsBitsFor}
 use Rattle.pipeline_balance.proofs.WrapLemmas.{wrap-+, wrap_twice, wrap_apart, wrap-one, equality-same, equality_apart}
 use Rattle.pipeline_balance.proofs.CostLemmas.{SameAdders-trans, SameAdders-register, SameAdders-plain, SameAdders-control, SameAdders-bind, SameNamed-trans, SameNamed-adds, SameNamed-register, SameNamed-bind}
 use Rattle.pipeline_balance.proofs.NumberedLemmas.{free_register, free_adds, free_bind}
@@ -249,6 +251,29 @@ IsCounter-circuit {n0} {n1} {n2} {n3} {n4} {n5} {n6} {n7} {n8} {w} {period} {fir
           mores = λ t. r6.each more.place _ (cell_of_added a6) t ∙ as_control cut law _ w _ (nameless_zero n5.group g5);
           nexts = λ t. r7.each next.place _ (cell_of_added a7) t ∙ as_control cut law _ w _ (nameless_zero n6.group g6);
         }
+
+-- the register that counts, when it has its next
+pub AddsCount-circuit : {n0 n1 n2 n3 n4 n5 n6 n7 n8 : NetView} {w w5 : ℕ} {count last restart one done more next : Node} {i2 i3 i4 i5 i6 i7 : Item} (most : ℕ) → IsBitsFor most w → n0.group ≡ 0 → AddsNext n0 n1 0 Control w count → Adds n1 n2 last w i2 → Adds n2 n3 restart w i3 → Adds n3 n4 one w i4 → Adds n4 n5 done w5 i5
+    → Adds n5 n6 more w i6 → Adds n6 n7 next w i7 → IsBoundTo n7 n8 count next → AddsCount n0.cells n8.cells most
+AddsCount-circuit {n0} {n1} {n2} {n3} {n4} {n5} {n6} {n7} {n8} {w} {w5} {count} {last} {restart} {one} {done} {more} {next} most bits g0 a1 a2 a3 a4 a5 a6 a7 b =
+    let there7 = there_then count.place a7 (there_then count.place a6 (there_then count.place a5 (there_then count.place a4 (there_then count.place a3 (there_then count.place a2 (cell_of_register a1.adds)))))) in
+    let is = cell_at-is n7.cells count.place _ there7 in
+    let inside = slice_get_within n7.cells count.place _ there7 in
+    record {
+      place = count.place;
+      added = let at = a1.adds.place in omega arith;
+      number = a1.number;
+      width = w;
+      register = record {
+        cell = _;
+        there = cell_of_bound (record { inside = inside; nextless = ap (λ (c : Cell). c.item) is }) b;
+        of_group = ap (λ (c : Cell). c.group) is ∙ g0;
+        named = ap (λ (c : Cell). c.name) is;
+        wide = ap (λ (c : Cell). c.width) is;
+        registered = (next, refl);
+      };
+      least = bits;
+    }
 
 -- ---- in a net whose group is another
 

@@ -13,6 +13,7 @@ use Rattle.net_graph.specs.Run.{Values, IsRun, HasShape}
 use Rattle.net_graph.specs.Grow.{Grows}
 use Rattle.net_graph.specs.Count.{one_if, is_window, is_table, has_kind, windows_in, tables_in}
 use Rattle.pipeline_balance.specs.Numbered.{IsRegister, IsCounted, IsTouched, LeavesFree, name_of}
+use Rattle.pipeline_balance.specs.Bits.{IsBitsFor}
 use Rattle.pipeline_balance.specs.Costs.{SameAdders, SameNamed}
 
 -- the tick is one of first, first + period, first + 2 * period, ..
@@ -35,6 +36,15 @@ pub record IsCounter (old new : NetView) (ticks : ℕ → Type 0) (bit : Node) :
   pub names : LeavesFree old.cells new.cells (λ name. name.kind ≡ Control)
   pub adders : SameAdders old.cells new.cells
   pub named : SameNamed old.cells new.cells
+
+-- the new net has a register of control with the least number of bits, at least 1, that number 0 to `last`
+pub record AddsCount (old new : List Cell) (last : ℕ) : Type 0 where
+  pub place : ℕ
+  pub added : length old ≤ place
+  pub number : ℕ
+  pub width : ℕ
+  pub register : IsRegister new place 0 (name_of 0 Control number) width
+  pub least : IsBitsFor last width
 
 -- a gate of a stream: a bit that is set exactly at the stream's ticks, or none where every tick is one of the stream
 abbrev pub IsGate : List Cell → ℕ → ℕ → Option Node → Type 0

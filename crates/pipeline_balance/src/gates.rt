@@ -2,7 +2,7 @@
 
 ghost use Rattle.std.specs.Prelude.{◌≡◌, ℕ, ◌+◌, ◌-◌, ◌^◌, ◌<◌, ◌≤◌, ◌-ℤ◌, pos, max, length, IfOk};
 ghost use Rattle.net_graph.specs.Grow.{Extends};
-ghost use Rattle.pipeline_balance.specs.Gate.{IsTickOf, IsCounter, AddsGate};
+ghost use Rattle.pipeline_balance.specs.Gate.{IsTickOf, IsCounter, AddsCount, AddsGate};
 ghost use Rattle.pipeline_balance.specs.Bits.{IsBitsFor};
 
 use crate::numbering::next_register;
@@ -42,6 +42,7 @@ pub(crate) fn count_ticks(net: &mut Net, period: u64, first: u64) -> Result<Node
     requires positive { 1 ≤ period }
     requires control { net.old.group ≡ 0 }
     ensures ok { IfOk result (IsCounter net.old net.new (IsTickOf period first)) }
+    ensures count { IfOk result (λ _. AddsCount net.old.cells net.new.cells (max first (period - 1))) }
     ensures extends { Extends net.old.cells net.new.cells }
     ensures group { net.new.group ≡ net.old.group }
 {
@@ -63,6 +64,7 @@ pub(crate) fn count_ticks(net: &mut Net, period: u64, first: u64) -> Result<Node
 pub fn counter(_alloc: Global, net: &mut Net, period: u64, first: u64) -> Result<Node, Memory>
     requires positive { 1 ≤ period }
     ensures ok { IfOk result (IsCounter net.old net.new (IsTickOf period first)) }
+    ensures count { IfOk result (λ _. AddsCount net.old.cells net.new.cells (max first (period - 1))) }
     ensures extends { Extends net.old.cells net.new.cells }
     ensures group { net.new.group ≡ net.old.group }
 {

@@ -5,7 +5,8 @@ use mir.Syntax.{w128}
 use Rattle.net_graph.proofs.NetLemmas.{Extends-register, Extends-then, IsUnbound-added, IsUnbound-then}
 use Rattle.net_graph.specs.Grow.{Adds}
 use Rattle.net_graph.specs.declared.cell.Item.TheVariants.{Constant}
-use Rattle.pipeline_balance.proofs.CounterLemmas.{IsCounter-circuit}
+use Rattle.pipeline_balance.proofs.CounterLemmas.{IsCounter-circuit, AddsCount-circuit}
+use Rattle.pipeline_balance.specs.Bits.{IsBitsFor}
 use Rattle.pipeline_balance.proofs.gates.count_ticks.Goals as goal
 
 passed : (n : ℕ) (z : ℤ) → z ≡ pos n → n < 2 ^ 64 → to_z w128 (of_z w128 z) ≡ pos n
@@ -52,3 +53,10 @@ returns-clause-ok c =
 
 pub returns-clause-extends : goal.returns-clause-extends
 returns-clause-extends c = (returns-clause-ok c).grows.extends
+
+pub returns-clause-count : goal.returns-clause-count
+returns-clause-count c =
+    let bits = c.bits_for-width.ensures in
+    let most : c.last_of.result ≡ max c.args.first (c.args.period - 1) = c.last_of.ensures in
+    AddsCount-circuit (max c.args.first (c.args.period - 1)) (subst (λ (n : ℕ). IsBitsFor n c.bits_for-width.result) most bits) c.requires.control c.in_ok-count.ensures.ok c.in_ok-last.ensures.ok c.in_ok-restart.ensures.ok
+    c.in_ok-one.ensures.ok c.in_ok-done.ensures.ok c.in_ok-more.ensures.ok c.in_ok-next.ensures.ok c.bind.ensures
