@@ -20,17 +20,17 @@ use Rattle.net_graph.specs.Cells.{NetView}
 use Rattle.net_graph.specs.Name.{is_control, is_input}
 use Rattle.net_graph.specs.WellFormed.{IsWellFormed, IsBound, IsFree}
 use Rattle.net_graph.specs.Control.{IsControlClosed}
-use Rattle.net_graph.specs.Cut.{cut_all}
+use Rattle.net_graph.specs.Cut.{Cut, IsCut, cut_all, cut_control}
 use Rattle.net_graph.specs.Run.{Values, IsRun}
 use Rattle.net_graph.specs.Grow.{Adds}
-use Rattle.net_graph.proofs.CutLemmas.{IsCut-all}
+use Rattle.net_graph.proofs.CutLemmas.{IsCut-all, IsCut-control}
 use Rattle.net_graph.proofs.NetLemmas.{cell_of_added}
 use Rattle.pipeline_balance.specs.Gate.{IsTickOf, IsBitOf, Carries}
 use Rattle.plan_laws.specs.Laws.{IsBetween}
 use Rattle.rounding_stage.proofs.MapLemmas.{fits_between}
 use Rattle.span_ranges.specs.Span.{IsInSpan}
 use Rattle.chain_build.specs.declared.output.Outputs.{Outputs}
-use Rattle.chain_build.specs.Added.{IsGrown, AreNameless, IsChained}
+use Rattle.chain_build.specs.Added.{IsGrown, AreNameless, CarriesChain, IsChained}
 use Rattle.chain_build.specs.Built.{are_built, is_built, AreBuiltGroups}
 use Rattle.chain_build.specs.ChainNet.{HasInput, HasSamples, ShowsValues, IsChainNet}
 use Rattle.chain_build.specs.Output.{AddsOutputs}
@@ -136,8 +136,8 @@ module _ {n1 n2 n3 : NetView} {node : Node} {stream : Stream} {outputs : Outputs
   pub bound3 : IsBound n3.cells
   bound3 = grown.bound (bound1 a)
 
-  shows : ShowsValues cut_all width ticks elements n3.cells outputs.out_q
-  shows inputs values v samples are run =
+  shows : (cut : Cut) → IsCut cut → (let from : Stream = record { node = node; period = ticks; offset = 0 } in CarriesChain cut width ticks elements n2.cells from stream) → ShowsValues cut width ticks elements n3.cells outputs.out_q
+  shows cut law through_chain inputs values v samples are run =
       let last = last_stream width ticks elements in
       let fits : (k : ℕ) → FitsWidth width (v (pos k)) = λ k. sample_fits width ticks (v (pos k)) (samples.within (pos k)) in
       let from : Stream = record { node = node; period = ticks; offset = 0 } in
@@ -145,14 +145,14 @@ module _ {n1 n2 n3 : NetView} {node : Node} {stream : Stream} {outputs : Outputs
       λ k.
       let at : 0 + k * ticks ≡ k * ticks = omega arith in
       ap (λ (t : ℕ). values t node.place) at
-      ∙ (grown.extends.runs cut_all IsCut-all inputs values run).each node.place _ (cell_of_added a) (k * ticks)
-      ∙ ap (cut_all false width) (are k)
-      ∙ IsCut-all.fitting false width (v (pos k)) wide (fits k) in
-      let through = chained.carries inputs values v samples (outs.grown.extends.runs cut_all IsCut-all inputs values run) carried in
+      ∙ (grown.extends.runs cut law inputs values run).each node.place _ (cell_of_added a) (k * ticks)
+      ∙ ap (cut false width) (are k)
+      ∙ law.fitting false width (v (pos k)) wide (fits k) in
+      let through = through_chain inputs values v samples (outs.grown.extends.runs cut law inputs values run) carried in
       let span = chained.span v samples in
       let out_fits : (k : ℕ) → FitsWidth outs.width (chain elements v (pos k)) =
       λ k. fits_between outs.width last.low (chain elements v (pos k)) last.high outs.least.holds_low outs.least.holds_high (span.within (pos k)).least (span.within (pos k)).greatest in
-      let shown = outs.carries cut_all IsCut-all inputs values (chain elements v) out_fits run through in
+      let shown = outs.carries cut law inputs values (chain elements v) out_fits run through in
       subst (λ (p : ℕ). Carries values (record { node = outputs.out_q; period = p; offset = latency width ticks elements }) (chain elements v)) chained.period
       (subst (λ (o : ℕ). Carries values (record { node = outputs.out_q; period = stream.period; offset = o + 1 }) (chain elements v)) chained.offset shown)
 
@@ -170,7 +170,8 @@ module _ {n1 n2 n3 : NetView} {node : Node} {stream : Stream} {outputs : Outputs
     shown_width = outs.shown_width;
     shown_control = outs.shown_control;
     positive = subst (λ (p : ℕ). 1 ≤ p) chained.period chained.positive;
-    values = shows;
+    values = shows cut_all IsCut-all chained.carries;
+    whole = λ plain. shows cut_control IsCut-control (chained.whole plain);
     valid = subst (λ (p : ℕ). IsBitOf n3.cells (IsTickOf p (latency width ticks elements)) outputs.out_valid) chained.period
         (subst (λ (o : ℕ). IsBitOf n3.cells (IsTickOf stream.period (o + 1)) outputs.out_valid) chained.offset outs.bit);
   }

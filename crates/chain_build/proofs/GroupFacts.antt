@@ -1,5 +1,5 @@
 -- A group as a stage does to a sequence what its elements do.
-use Rattle.std.proofs.Common.{◌≡◌, ℕ, suc, ◌+◌, ◌*◌, ◌≤◌, refl, sym, ◌∙◌, ap, arith, subst, List, [], ◌∷◌, ℤ, pos, ◌+ℤ◌, ◌-ℤ◌, ◌*ℤ◌, Option, None, Some}
+use Rattle.std.proofs.Common.{◌≡◌, ℕ, suc, ◌+◌, ◌*◌, ◌≤◌, refl, sym, ◌∙◌, ap, arith, subst, List, [], ◌∷◌, ℤ, pos, ◌+ℤ◌, ◌-ℤ◌, ◌*ℤ◌, Option, None, Some, true}
 use Rattle.std.specs.Prelude.{unsigned_abs, unwrap_or}
 use Rattle.std.proofs.Math.Path.{fun_ext}
 use Rattle.std.proofs.lemmas.Int.{ints}
@@ -8,7 +8,8 @@ use Rattle.mr_values.specs.declared.plan.Form.TheVariants.{Parallel}
 use Rattle.mr_values.proofs.Plain.{up-one}
 use Rattle.polyphase_fir.specs.Facts.{polyphase_facts}
 use Rattle.stage_law.specs.Streams.{magnitudes}
-use Rattle.chain_build.specs.Built.{IsBuiltGroup}
+use Rattle.chain_build.specs.Built.{IsBuiltGroup, IsPlainGroup}
+use Rattle.stage_law.specs.Kinds.{carries_uncut}
 use Rattle.mr_values.specs.declared.plan.Mode.{Mode}
 use Rattle.mr_values.specs.Sequence.{Sequence, up, down, filter}
 use Rattle.mr_values.specs.Value.{chain}
@@ -71,3 +72,10 @@ facts-is (Fir u f d) facts is h = subst (IsFactsOf (Fir u f d)) (sym h) (fir-is 
 facts-is (DownCic factor stages delay) facts is h = absurd h
 facts-is (UpCic factor stages delay) facts is h = absurd h
 facts-is (Rounding shift mode) facts is h = subst (IsFactsOf (Rounding shift mode)) (sym h) (rounding-is shift mode)
+
+-- a group that doesn't round carries its elements in the uncut run too
+pub plain-carries : (g : Group) (facts : StageFacts) → IsPlainGroup g → HasFacts g facts → carries_uncut facts.kind ≡ true
+plain-carries (Fir u f d) facts plain h = ap (λ (e : StageFacts). carries_uncut e.kind) h
+plain-carries (DownCic factor stages delay) facts plain h = absurd h
+plain-carries (UpCic factor stages delay) facts plain h = absurd h
+plain-carries (Rounding shift mode) facts plain h = absurd plain

@@ -13,10 +13,10 @@ use Rattle.net_graph.specs.declared.cell.Stream.{Stream}
 use Rattle.net_graph.specs.declared.name.Name.{Name}
 use Rattle.net_graph.specs.declared.name.NameKind.TheVariants.{Control}
 use Rattle.net_graph.specs.Cells.{NetView}
-use Rattle.net_graph.specs.Cut.{cut_all}
+use Rattle.net_graph.specs.Cut.{cut_all, cut_control}
 use Rattle.net_graph.specs.Run.{Values, IsRun}
 use Rattle.net_graph.specs.WellFormed.{IsFree}
-use Rattle.net_graph.proofs.CutLemmas.{IsCut-all}
+use Rattle.net_graph.proofs.CutLemmas.{IsCut-all, IsCut-control}
 use Rattle.pipeline_balance.specs.Gate.{Carries}
 use Rattle.plan_check.specs.declared.facts.Facts.{Facts}
 use Rattle.plan_check.specs.declared.facts.GroupFacts.{GroupFacts}
@@ -31,12 +31,12 @@ use Rattle.stage_law.specs.Realises.{IsUnused, IsOwnName}
 use Rattle.stage_law.specs.Streams.{HasRoom}
 use Rattle.span_ranges.specs.Span.{IsInSpan}
 use Rattle.chain_build.specs.declared.groups.Added.{Added}
-use Rattle.chain_build.specs.Built.{IsBuiltGroup, AreBuiltGroups}
+use Rattle.chain_build.specs.Built.{IsBuiltGroup, AreBuiltGroups, ArePlainGroups}
 use Rattle.chain_build.specs.Added.{IsTaking, IsGroupAdded, IsGrown, AreNameless, CarriesChain, IsChained}
 use Rattle.chain_build.proofs.Walk.{IsWalk, factors_some, cancel, walk_rate, walk_next, walk_start, walk_most, walk_gain, walk_end, period-whole}
 use Rattle.chain_build.proofs.Spans.{in_span-group, zero-group, HasRoom-span}
 use Rattle.chain_build.proofs.Grown.{IsGrown-refl, IsGrown-grows, IsGrown-trans, free_in}
-use Rattle.chain_build.proofs.GroupFacts.{IsFactsOf, facts-is}
+use Rattle.chain_build.proofs.GroupFacts.{IsFactsOf, facts-is, plain-carries}
 
 -- samples of the width
 abbrev pub AreSamples : ℕ → ℕ → Sequence → Type 0
@@ -63,6 +63,8 @@ pub record SoFar (width ticks : ℕ) (whole : List Element) (old net : NetView) 
   pub grouped : 1 ≤ net.group
   pub within : last.node.place < length net.cells
   pub carries : (inputs : ℕ → ℤ) (values : Values) (v : Sequence) → AreSamples width ticks v → IsRun cut_all net.cells inputs values → Carries values from v → Carries values last (done v)
+  pub plain : ArePlainGroups (groups whole) → ArePlainGroups (groups rest)
+  pub whole_carries : ArePlainGroups (groups whole) → (inputs : ℕ → ℤ) (values : Values) (v : Sequence) → AreSamples width ticks v → IsRun cut_control net.cells inputs values → Carries values from v → Carries values last (done v)
   pub names : (name : Name) → (name.kind ≡ Control → ⊥) → (number ≤ name.group) ⊎ (name.group ≡ 0) → IsFree net.cells name
 
 pub SoFar-start : (width ticks : ℕ) (whole : List Element) (old net : NetView) (from : Stream) (left : List GroupFacts) → from.node.place < length old.cells → AreNameless old.cells → from.offset ≡ 0 → from.period ≡ ticks → 2 ≤ width → width ≤ 64 → 1 ≤ ticks → ticks ≤ 65536 → All IsWithinLimits whole → length whole ≤ 32
@@ -88,6 +90,8 @@ SoFar-start width ticks whole old net from left inside nameless offset period wi
   grouped = subst (λ (n : NetView). 1 ≤ n.group) (sym is) (omega arith);
   within = subst (λ (n : NetView). from.node.place < length n.cells) (sym is) inside;
   carries = λ inputs values v h run carried. carried;
+  plain = λ p. p;
+  whole_carries = λ p inputs values v h run carried. carried;
   names = λ name other which. subst (λ (n : NetView). IsFree n.cells name) (sym is) (nameless.free name);
 }
   where
@@ -103,6 +107,9 @@ module _ {width ticks : ℕ} {whole : List Element} {old net : NetView} {from la
 
   head_built : AreBuiltGroups (g ∷ groups others)
   head_built = subst AreBuiltGroups split.parts so.built
+
+  plain_head : ArePlainGroups (groups whole) → ArePlainGroups (g ∷ groups others)
+  plain_head p = subst ArePlainGroups split.parts (so.plain p)
 
   pub is_built_head : IsBuiltGroup g
   is_built_head = head_built.0
@@ -178,6 +185,12 @@ module _ {width ticks : ℕ} {whole : List Element} {old net : NetView} {from la
             let before = so.carries inputs values v h (grown.extends.runs cut_all IsCut-all inputs values run) carried in
             let inside : IsInSpan fact.span_lo fact.span_hi (so.done v) = rw (span_low, span_high) (so.inside v h) in
             subst (λ (w : Sequence). Carries values added.emitted.stream w) (f.does (so.done v)) (r.carries inputs values (so.done v) inside run before);
+        plain = λ p. (plain_head p).1;
+        whole_carries = λ p inputs values v h run carried.
+            let linear = plain-carries g adds.facts (plain_head p).0 adds.has_facts in
+            let before = so.whole_carries p inputs values v h (grown.extends.runs cut_control IsCut-control inputs values run) carried in
+            let inside : IsInSpan fact.span_lo fact.span_hi (so.done v) = rw (span_low, span_high) (so.inside v h) in
+            subst (λ (w : Sequence). Carries values added.emitted.stream w) (f.does (so.done v)) (r.whole linear inputs values (so.done v) inside run before);
         names = λ name other which.
             let was : IsFree mid.cells name = subst (λ (cells : List Cell). IsFree cells name) (sym same_cells) (so.names name other (earlier name.group which)) in
             r.names.free name (λ own. other_name name other which same_group own) was;
@@ -258,6 +271,7 @@ SoFar-end {width} {ticks} {whole} {old} {net} {from} {last} {rest} {number} so =
       high_small = subst (λ (s : Timed). unsigned_abs s.high ≤ 2 ^ 125) stream_is small.1;
       span = λ v h. subst (λ (w : Sequence). IsInSpan (last_stream width ticks whole).low (last_stream width ticks whole).high w) (done_is v) (subst (λ (s : Timed). IsInSpan s.low s.high (so.done v)) stream_is (so.inside v h));
       carries = λ inputs values v h run carried. subst (λ (w : Sequence). Carries values last w) (done_is v) (so.carries inputs values v h run carried);
+      whole = λ p inputs values v h run carried. subst (λ (w : Sequence). Carries values last w) (done_is v) (so.whole_carries p inputs values v h run carried);
       names = λ name other none. so.names name other (inr none);
     }
   where

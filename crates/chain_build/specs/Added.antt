@@ -3,14 +3,14 @@ use Rattle.std.specs.Prelude.{◌≡◌, ℕ, ℤ, ◌-◌, ◌*◌, ◌%◌, �
 use Rattle.mr_values.specs.declared.plan.Element.{Element}
 use Rattle.mr_values.specs.Sequence.{Sequence}
 use Rattle.mr_values.specs.Value.{chain}
-use Rattle.mr_values.specs.Timing.{Group, Fir, DownCic, UpCic, Rounding, taps_of, up_factor, down_factor, input, last_stream}
+use Rattle.mr_values.specs.Timing.{Group, Fir, DownCic, UpCic, Rounding, taps_of, up_factor, down_factor, groups, input, last_stream}
 use Rattle.net_graph.specs.declared.cell.Cell.{Cell}
 use Rattle.net_graph.specs.declared.cell.Stream.{Stream}
 use Rattle.net_graph.specs.declared.name.Name.{Name}
 use Rattle.net_graph.specs.declared.name.NameKind.TheVariants.{Control}
 use Rattle.net_graph.specs.Cells.{NetView}
 use Rattle.net_graph.specs.Control.{IsControlClosed}
-use Rattle.net_graph.specs.Cut.{Cut, cut_all}
+use Rattle.net_graph.specs.Cut.{Cut, cut_all, cut_control}
 use Rattle.net_graph.specs.Grow.{Extends}
 use Rattle.net_graph.specs.Name.{is_input}
 use Rattle.net_graph.specs.Run.{Values, IsRun}
@@ -23,6 +23,7 @@ use Rattle.stage_law.specs.Facts.{StageFacts}
 use Rattle.stage_law.specs.Realises.{Realises}
 use Rattle.stage_law.specs.Streams.{Streams}
 use Rattle.chain_build.specs.declared.groups.Added.{Added}
+use Rattle.chain_build.specs.Built.{ArePlainGroups}
 
 -- what a group is as a stage
 abbrev pub HasFacts : Group → StageFacts → Type 0
@@ -62,7 +63,7 @@ abbrev pub CarriesChain : Cut → ℕ → ℕ → List Element → List Cell →
 CarriesChain cut width ticks elements cells from to =
     (inputs : ℕ → ℤ) (values : Values) (v : Sequence) → IsInSpan (input width ticks).low (input width ticks).high v → IsRun cut cells inputs values → Carries values from v → Carries values to (chain elements v)
 
--- The new net has a stream that carries the chain's values, with the period, offset and span of the last stream; of names in group 0 only
+-- The new net has a stream that carries the chain's values, also in the uncut run where no group rounds, with the period, offset and span of the last stream; of names in group 0 only
 -- some of control are taken.
 pub record IsChained (width ticks : ℕ) (elements : List Element) (old new : NetView) (from to : Stream) : Type 0 where
   pub grown : IsGrown old.cells new.cells
@@ -76,4 +77,5 @@ pub record IsChained (width ticks : ℕ) (elements : List Element) (old new : Ne
   pub high_small : unsigned_abs (last_stream width ticks elements).high ≤ 2 ^ 125
   pub span : (v : Sequence) → IsInSpan (input width ticks).low (input width ticks).high v → IsInSpan (last_stream width ticks elements).low (last_stream width ticks elements).high (chain elements v)
   pub carries : CarriesChain cut_all width ticks elements new.cells from to
+  pub whole : ArePlainGroups (groups elements) → CarriesChain cut_control width ticks elements new.cells from to
   pub names : (name : Name) → (name.kind ≡ Control → ⊥) → name.group ≡ 0 → IsFree new.cells name

@@ -37,3 +37,14 @@ IsBuiltGroup (Rounding shift mode) = Unit {0}
 abbrev pub AreBuiltGroups : List Group → Type 0
 AreBuiltGroups [] = Unit {0}
 AreBuiltGroups (g ∷ gs) = IsBuiltGroup g × AreBuiltGroups gs
+
+-- a group that doesn't round
+abbrev pub IsPlainGroup : Group → Type 0
+IsPlainGroup (Fir up filter down) = Unit {0}
+IsPlainGroup (DownCic factor stages delay) = Unit {0}
+IsPlainGroup (UpCic factor stages delay) = Unit {0}
+IsPlainGroup (Rounding shift mode) = ⊥
+
+abbrev pub ArePlainGroups : List Group → Type 0
+ArePlainGroups [] = Unit {0}
+ArePlainGroups (g ∷ gs) = IsPlainGroup g × ArePlainGroups gs

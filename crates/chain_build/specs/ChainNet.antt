@@ -2,7 +2,7 @@
 use Rattle.std.specs.Prelude.{◌≡◌, true, ℕ, ◌≤◌, ◌+◌, ◌*◌, ℤ, pos, List, length, Some, slice_get}
 use Rattle.mr_values.specs.declared.plan.Element.{Element}
 use Rattle.mr_values.specs.Sequence.{Sequence}
-use Rattle.mr_values.specs.Timing.{input, last_stream, latency}
+use Rattle.mr_values.specs.Timing.{groups, input, last_stream, latency}
 use Rattle.mr_values.specs.Value.{chain}
 use Rattle.mr_values.specs.Width.{IsLeastWidth}
 use Rattle.net_graph.specs.declared.cell.Cell.{Cell}
@@ -10,13 +10,14 @@ use Rattle.net_graph.specs.declared.cell.Node.{Node}
 use Rattle.net_graph.specs.declared.name.NameKind.TheVariants.{Output, Valid}
 use Rattle.net_graph.specs.Cells.{cell_at}
 use Rattle.net_graph.specs.Control.{IsOfControl, IsControlClosed}
-use Rattle.net_graph.specs.Cut.{Cut, cut_all}
+use Rattle.net_graph.specs.Cut.{Cut, cut_all, cut_control}
 use Rattle.net_graph.specs.Name.{is_input}
 use Rattle.net_graph.specs.Run.{Values, IsRun}
 use Rattle.net_graph.specs.WellFormed.{IsNetlist}
 use Rattle.pipeline_balance.specs.Gate.{IsTickOf, IsBitOf, Carries}
 use Rattle.pipeline_balance.specs.Numbered.{IsRegister, name_of}
 use Rattle.span_ranges.specs.Span.{IsInSpan}
+use Rattle.chain_build.specs.Built.{ArePlainGroups}
 
 -- the first node is the only input, and has this width
 pub record HasInput (net : List Cell) (width : ℕ) : Type 0 where
@@ -36,7 +37,8 @@ ShowsValues cut width ticks elements net out_q =
     (inputs : ℕ → ℤ) (values : Values) (v : Sequence) → IsInSpan (input width ticks).low (input width ticks).high v → HasSamples ticks inputs v → IsRun cut net inputs values
     → Carries values (record { node = out_q; period = (last_stream width ticks elements).period; offset = latency width ticks elements }) (chain elements v)
 
--- `out_q` has the least width for the span at the end, and shows the chain's values at its ticks; the bit `out_valid` is set exactly
+-- `out_q` has the least width for the span at the end, and shows the chain's values at its ticks, also in the uncut run where no group
+-- rounds; the bit `out_valid` is set exactly
 -- at these ticks.
 pub record IsChainNet (width ticks : ℕ) (elements : List Element) (net : List Cell) (out_q out_valid : Node) : Type 0 where
   pub netlist : IsNetlist net
@@ -52,4 +54,5 @@ pub record IsChainNet (width ticks : ℕ) (elements : List Element) (net : List 
   pub shown_control : IsOfControl net out_valid.place
   pub positive : 1 ≤ (last_stream width ticks elements).period
   pub values : ShowsValues cut_all width ticks elements net out_q
+  pub whole : ArePlainGroups (groups elements) → ShowsValues cut_control width ticks elements net out_q
   pub valid : IsBitOf net (IsTickOf (last_stream width ticks elements).period (latency width ticks elements)) out_valid
