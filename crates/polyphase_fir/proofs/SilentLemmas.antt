@@ -2,7 +2,7 @@
 use Rattle.std.proofs.Common.{◌≡◌, ℕ, suc, ◌<◌, ℤ, pos, ◌-ℤ◌, List, [], ◌∷◌, refl, arith}
 use Rattle.std.proofs.lemmas.Int.{ints}
 use native.Mathlib.Nat.{mod-eq_of_lt}
-use Rattle.mr_values.specs.Sequence.{Sequence, filter, weighted_sum}
+use Rattle.mr_values.specs.Sequence.{Sequence, weighted_sum}
 use Rattle.stage_law.specs.declared.ranges.Class.{Class}
 use Rattle.stage_law.specs.declared.ranges.Range.{Range}
 use Rattle.stage_law.specs.Range.{IsRange}
