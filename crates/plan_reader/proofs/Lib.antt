@@ -4,3 +4,4 @@ mod PrintSteps
 mod Refusals
 mod TapSteps
 mod TappedSteps
+mod OneAnswer

@@ -1,7 +1,8 @@
 // The rows of a tap file.
-ghost use Rattle.std.specs.Prelude.{◌≡◌, Ok, IfOk, MatchResult, map};
+ghost use Rattle.std.specs.Prelude.{◌≡◌, ℤ, List, Result, Ok, IfOk, MatchResult, map};
 ghost use Rattle.csv.specs.Records.{fields_of};
 ghost use Rattle.plan_reader.specs.TapFields.{AreRows, SaysTaps, IsTapRefusal, rows_taps, row_taps, at_row, tap_of};
+ghost use Rattle.plan_reader.specs.declared.fault.TapFault.{TapFault};
 ghost use Rattle.plan_reader.specs.Answers.{TapsGive};
 
 use crate::fault::TapFault;
@@ -12,7 +13,10 @@ use std::alloc::Global;
 /// The taps of a tap file, field by field and row by row. It fails with the first field that is no whole number of 64
 /// bits, and for want of memory.
 pub fn read_taps(alloc: Global, bytes: &[u8]) -> Result<Vec<i64>, TapFault>
-    ensures { MatchResult result (λ taps. SaysTaps bytes.now (Ok taps.items)) (IsTapRefusal bytes.now) }
+    ensures answer { MatchResult result (λ taps. SaysTaps bytes.now (Ok taps.items)) (IsTapRefusal bytes.now) }
+
+    // A tap file has one answer.
+    ensures only { (a b : Result (List ℤ) TapFault) → SaysTaps bytes.now a → SaysTaps bytes.now b → a ≡ b }
 {
     match rows_of(alloc, bytes) {
         Ok(rows) => taps_of(alloc, &rows),
