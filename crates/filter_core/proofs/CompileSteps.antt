@@ -10,11 +10,17 @@ use Rattle.filter_core.specs.declared.fault.Fault.{Fault}
 use Rattle.filter_core.specs.declared.fault.Fault.TheVariants.{HostFault, Memory, PlanRead, NotBuilt}
 use Rattle.filter_core.specs.declared.fault.Fault.TheVariants as fault
 use Rattle.filter_core.specs.WholeFiles.{WriteAnswer, IsEmptied, HoldsFront, HoldsPart}
-use Rattle.mr_values.specs.Value.{size}
+use Rattle.std.specs.Prelude.{All}
+use Rattle.mr_values.specs.declared.plan.Element.{Element}
+use Rattle.mr_values.specs.Value.{size, IsWithinLimits}
+use Rattle.plan_check.specs.declared.facts.Facts.{Facts}
+use Rattle.plan_check.specs.Accepted.{AreFacts}
+use Rattle.plan_laws.proofs.Errors.{bound_holds}
+use Rattle.plan_laws.proofs.Passes.{passes_of}
 use Rattle.chain_build.specs.Built.{are_built}
 use Rattle.filter_core.specs.declared.accept.AcceptedPlan.{AcceptedPlan}
 use Rattle.filter_core.specs.PlanFile.{AcceptAnswer, IsAcceptedPlan}
-use Rattle.filter_core.specs.Compile.{IsBuiltFile, IsUnbuiltFile, AreOutputs, IsReadToEnd, CompileEnds}
+use Rattle.filter_core.specs.Compile.{IsBounded, IsBuiltFile, IsUnbuiltFile, AreOutputs, IsReadToEnd, CompileEnds}
 
 -- a plan that is there, accepted and built
 pub built_of : (plan : List ℕ) (files : Files) (bytes : List ℕ) (accepted : AcceptedPlan) → get files plan ≡ Some bytes → length bytes ≤ 2 ^ 20 → IsAcceptedPlan bytes accepted → are_built accepted.plan.elements ≡ true → IsBuiltFile plan files
@@ -23,6 +29,10 @@ built_of plan files bytes accepted there short says built = record {
   accepted = record { bytes = bytes; has = record { there = there; short = short }; accepted = says.says };
   built = built;
 }
+
+-- the reported bound holds
+bounded_by : (w t : ℕ) (elements : List Element) (facts : Facts) → All IsWithinLimits elements → AreFacts w t elements facts → IsBounded elements facts
+bounded_by w t elements facts limits are xs n = rw (are.bound_is, are.shift_is) (bound_holds elements limits xs n)
 
 -- a text and a report of a plan that is built
 pub outputs_of : (plan : List ℕ) (files : Files) (bytes text lines : List ℕ) (accepted : AcceptedPlan) → get files plan ≡ Some bytes → length bytes ≤ 2 ^ 20 → IsAcceptedPlan bytes accepted → are_built accepted.plan.elements ≡ true
@@ -34,6 +44,7 @@ outputs_of plan files bytes text lines accepted there short says built shows is 
   are_facts = says.are_facts;
   shows = shows;
   lines = is;
+  bounded = bounded_by (size accepted.plan.width) (size accepted.plan.ticks) accepted.plan.elements accepted.facts ((passes_of accepted.plan says.says.accepted).limits.elements) says.are_facts;
 }
 
 -- a plan that is there and accepted, and not built

@@ -1,5 +1,5 @@
 -- What `compile` writes, and what its answers mean.
-use Rattle.std.specs.Prelude.{◌≡◌, ◌⊎◌, ℕ, List, [], drop, true, false, Result, Ok, Err}
+use Rattle.std.specs.Prelude.{◌≡◌, ◌⊎◌, ℕ, ◌≤◌, ◌^◌, ℤ, pos, ◌*ℤ◌, ◌-ℤ◌, unsigned_abs, List, [], drop, true, false, Result, Ok, Err}
 use Rattle.std.specs.FinMap.{insert}
 use Rattle.mr_values.specs.Files.{Files, bytes_of}
 use Rattle.mr_values.specs.Host.{HostState}
@@ -10,10 +10,12 @@ use Rattle.filter_core.specs.declared.fault.Fault.TheVariants.{HostFault, Memory
 use Rattle.filter_core.specs.declared.fault.Fault.TheVariants as fault
 use Rattle.filter_core.specs.declared.fault.FileKind.TheVariants.{Plan}
 use Rattle.mr_values.specs.declared.plan.Plan.{Plan as ChainPlan}
-use Rattle.mr_values.specs.Value.{size}
+use Rattle.mr_values.specs.declared.plan.Element.{Element}
+use Rattle.mr_values.specs.Value.{size, val}
 use Rattle.plan_check.specs.declared.facts.Facts.{Facts}
 use Rattle.plan_check.specs.Accepted.{AreFacts}
 use Rattle.chain_build.specs.Built.{are_built}
+use Rattle.plan_laws.specs.Laws.{plain}
 use Rattle.filter_text.specs.Headline.{IsTextOf}
 use Rattle.filter_core.specs.PlanFile.{IsTooLong, IsAcceptedFile, IsUnreadFile, IsUnacceptedFile, HasTapFiles}
 use Rattle.filter_core.specs.Report.{report_text}
@@ -35,19 +37,25 @@ pub record IsUnbuiltFile (name : List ℕ) (files : Files) : Type 0 where
 abbrev pub IsNotBuilt : List ℕ → Files → Type 0
 IsNotBuilt name files = IsUnbuiltFile name files ⊎ HasTapFiles name files
 
+-- 2 ^ shift times a value of the chain is at most the bound away from the value of the chain without its roundings
+abbrev pub IsBounded : List Element → Facts → Type 0
+IsBounded elements facts = (xs : List ℤ) (n : ℤ) → unsigned_abs (pos (2 ^ facts.shift) *ℤ val elements xs n -ℤ val (plain elements) xs n) ≤ facts.bound
+
 -- PLAN was read to its end
 pub record IsReadToEnd (plan : List ℕ) (old new : HostState) : Type 0 where
   pub input : new.input ≡ plan
   pub end : drop new.place (bytes_of old.files plan) ≡ []
 
 -- What TEXT and REPORT are to hold: a text that reads as a module which shows the plan's chain, at its latency and period, and the
--- lines of the report, which tell these.
+-- lines of the report, which tell these and the bound: 2 ^ shift times a value is at most the bound away from the value of the chain
+-- without its roundings.
 pub record AreOutputs (plan : List ℕ) (files : Files) (text report : List ℕ) : Type 0 where
   pub built : IsBuiltFile plan files
   pub facts : Facts
   pub are_facts : AreFacts (size built.plan.width) (size built.plan.ticks) built.plan.elements facts
   pub shows : IsTextOf built.plan.elements (size built.plan.width) (size built.plan.ticks) facts.latency facts.period text
   pub lines : report ≡ report_text facts
+  pub bounded : IsBounded built.plan.elements facts
 
 -- TEXT and REPORT hold these bytes, and no other file has changed
 abbrev pub HoldsBoth : List ℕ → List ℕ → List ℕ → List ℕ → Files → Files → Type 0

@@ -24,6 +24,10 @@ module _ {width ticks : ℕ} {elements : List Element} {cells : List Cell} {out_
       net.netlist.well_formed.apart (output_place cells) out_q.place first.cell r.cell (name_of 0 Output 0) first.there r.there
       (output_name first.cell.name first.cell.item ((net.netlist.well_formed.each (output_place cells) first.cell first.there).named) first.is_it) r.named
 
+  pub output_wide : (cell_at cells (output_place cells)).width ≡ net.out_width
+  output_wide =
+      ap (λ (k : ℕ). (cell_at cells k).width) output_is ∙ ap (λ (c : Cell). c.width) (cell_at-is cells out_q.place net.register.cell net.register.there) ∙ net.register.wide
+
   pub valid_is : valid_place cells ≡ out_valid.place
   valid_is =
       let first = first_there (λ (c : Cell). has_kind is_valid_kind c.name) cells out_valid.place (cell_at cells out_valid.place) valid_there (ap (has_kind is_valid_kind) net.shown) in

@@ -1,7 +1,7 @@
 -- What the text of a plan has to show: each value of the chain at its tick, and nothing at any other tick.
 use Rattle.std.specs.Prelude.{◌≡◌, ℕ, zero, suc, ◌+◌, ◌-◌, ◌*◌, ◌≤◌, true, List, [], ◌∷◌, ◌++◌, length, map, drop, ℤ, pos}
-use Rattle.mr_values.specs.Width.{signed}
-use Rattle.mr_values.specs.Timing.{ceil_div}
+use Rattle.mr_values.specs.Width.{signed, IsLeastWidth}
+use Rattle.mr_values.specs.Timing.{ceil_div, last_stream}
 use Rattle.mr_values.specs.Sequence.{phase}
 use Rattle.mr_values.specs.Value.{val}
 use Rattle.mr_values.specs.declared.plan.Element.{Element}
@@ -50,11 +50,13 @@ pub record ShowsChain (elements : List Element) (width ticks latency period : �
   pub shows : (content : Values) (before after : List Cycle) (reset : Cycle) (settled : List Values) → IsRunFrom d width content before after reset settled
       → map pair_of (events_after d before after settled) ≡ outputs_within latency period (λ n. val elements (samples_in width ticks after) (pos n)) (ticks_in after)
 
--- the bytes read as one module, it passes every check, from any content it runs over any cycles, and it shows the chain
+-- the bytes read as one module, it passes every check, from any content it runs over any cycles, its output has the least width for the
+-- span of the last stream, and it shows the chain
 pub record IsTextOf (elements : List Element) (width ticks latency period : ℕ) (bytes : List ℕ) : Type 0 where
   pub design : Design
   pub reads : Reads bytes design
   pub only : (other : Design) → Reads bytes other → other ≡ design
   pub passes : Passes design
   pub runs : HasRuns design
+  pub output : IsLeastWidth (last_stream width ticks elements).low (last_stream width ticks elements).high ((shapes_of design).width (ports_of design).out_data)
   pub shows : ShowsChain elements width ticks latency period design

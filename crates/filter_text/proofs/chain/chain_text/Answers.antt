@@ -1,5 +1,6 @@
-use Rattle.std.proofs.Common.{◌≡◌, ℕ, List, Result, Ok, Err, IfOk, subst, sym}
+use Rattle.std.proofs.Common.{◌≡◌, ℕ, List, Result, Ok, Err, IfOk, subst, sym, ◌∙◌}
 use Rattle.mr_values.specs.Value.{size}
+use Rattle.mr_values.specs.Width.{IsLeastWidth}
 use Rattle.mr_values.specs.Timing.{last_stream, latency}
 use Rattle.verilog_tree.specs.Tree.{Design}
 use Rattle.verilog_text.specs.Grammar.{limits}
@@ -11,9 +12,9 @@ use Rattle.net_module.proofs.Outputs.{shows_as}
 use Rattle.net_text.proofs.Writable.{has_text, in_order}
 use Rattle.filter_text.specs.Headline.{ShowsChain}
 use Rattle.filter_text.proofs.ChainLimits.{narrow_plan, wide_plan, some_ticks}
-use Rattle.filter_text.proofs.ChainPlaces.{chain_writable}
+use Rattle.filter_text.proofs.ChainPlaces.{chain_writable, output_wide}
 use Rattle.filter_text.proofs.ChainShows.{chain_shows}
-use Rattle.filter_text.proofs.ReadModules.{passing, running}
+use Rattle.filter_text.proofs.ReadModules.{passing, running, output_width}
 use Rattle.filter_text.proofs.chain.chain_text.Goals as goal
 
 if_ok : {A E : Type 0} (P Q : A → Type 0) → ((x : A) → P x → Q x) → (r : Result A E) → IfOk r P → IfOk r Q
@@ -46,6 +47,7 @@ returns c =
       only = λ other its. one_design text.items other read.0 its read.1;
       passes = passing cells net.netlist can read.0 as_written;
       runs = running cells net.netlist can read.0 as_written;
+      output = subst (IsLeastWidth (last_stream W T es).low (last_stream W T es).high) (sym (output_width cells read.0 as_written ∙ output_wide net)) net.least;
       shows = subst (λ (p : ℕ). ShowsChain es W T c.args.facts.now.latency p read.0) (sym c.requires.are_facts.period_is)
           (subst (λ (l : ℕ). ShowsChain es W T l (last_stream W T es).period read.0) (sym c.requires.are_facts.latency_is)
           (chain_shows (wide_plan c.args.plan.now c.requires.accepted) (some_ticks c.args.plan.now c.requires.accepted) net.positive net (shows_as cells net.netlist can) read.0 as_written));
