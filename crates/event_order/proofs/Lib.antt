@@ -1,3 +1,4 @@
 pub mod AnOrder
 pub mod EveryOrder
+pub mod Inputs
 pub mod Moments

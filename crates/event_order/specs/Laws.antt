@@ -1,7 +1,7 @@
 -- What every order of steps shows.
-use Rattle.std.specs.Prelude.{◌≡◌, ℕ, List, map, All}
+use Rattle.std.specs.Prelude.{◌≡◌, ℕ, List, map}
 use Rattle.verilog_tree.specs.Meaning.{Values}
-use Rattle.verilog_tree.specs.Circuit.{Circuit, Input, IsSource, IsSettling, with_inputs, next, IsRun}
+use Rattle.verilog_tree.specs.Circuit.{Circuit, Input, IsSource, IsSettling, with_inputs, next}
 use Rattle.verilog_tree.specs.Cycle.{circuit_of}
 use Rattle.verilog_tree.specs.Shown.{Cycle, RunsOver, inputs_of, ports_of}
 use Rattle.verilog_tree.specs.Tree.{Design}
@@ -22,5 +22,5 @@ inputs_over d cycles = map (inputs_of (ports_of d)) cycles
 -- outputs are read are those of the run.
 abbrev pub EveryRun : Design → Type 0
 EveryRun d =
-    (cycles : List Cycle) (content : Values) (reads : List Values) (after : Moment) → All (AreInputs (circuit_of d)) (inputs_over d cycles)
-    → AreOrders (circuit_of d) (inputs_over d cycles) (first_moment content) reads after → RunsOver d content cycles reads
+    (cycles : List Cycle) (content : Values) (reads : List Values) (after : Moment) → AreOrders (circuit_of d) (inputs_over d cycles) (first_moment content) reads after
+    → RunsOver d content cycles reads

@@ -4,6 +4,8 @@
 ghost use Rattle.verilog_tree.specs.Checks.{Passes};
 ghost use Rattle.verilog_tree.specs.Cycle.{circuit_of};
 ghost use Rattle.verilog_tree.specs.Tree.{Design};
+ghost use Rattle.verilog_text.specs.Grammar.{limits};
+ghost use Rattle.verilog_text.specs.Shortest.{IsWritable};
 ghost use Rattle.event_order.specs.Laws.{EveryOrder, EveryRun};
 
 /// In every order of one cycle of a module that passes the checks, from any content of registers and wires in which at least the
@@ -13,7 +15,7 @@ pub fn law_of_every_order()
     ensures { (d : Design) → Passes d → EveryOrder (circuit_of d) }
 {}
 
-/// In all orders of a list of cycles the outputs are read from the values of the run.
+/// In all orders of a list of cycles of a module of the grammar that passes the checks the outputs are read from the values of the run.
 pub fn law_of_every_run()
-    ensures { (d : Design) → Passes d → EveryRun d }
+    ensures { (d : Design) → IsWritable limits d → Passes d → EveryRun d }
 {}

@@ -1,4 +1,5 @@
 pub mod DrivenOnce
+pub mod InputPorts
 pub mod Levels
 pub mod Passing
 pub mod Places

@@ -1,13 +1,13 @@
 -- What follows from passing the checks: a module runs, and in one way.
-use Rattle.std.proofs.Common.{◌≡◌, ℕ, List, [], ◌∷◌, map, Option, None, Some, refl, arith}
+use Rattle.std.proofs.Common.{◌≡◌, List, [], ◌∷◌, map, Option, None, Some, refl, arith}
 use Rattle.std.specs.Option.{option_map}
 use Rattle.verilog_tree.specs.declared.fault.ModuleFault.{ModuleFault}
 use Rattle.verilog_tree.specs.Tree.{Design}
 use Rattle.verilog_tree.specs.Meaning.{Values}
 use Rattle.verilog_tree.specs.Circuit.{Input, IsRun, with_inputs, next}
-use Rattle.verilog_tree.specs.Cycle.{circuit_of, IsDrivenOnce, IsLoopFree}
+use Rattle.verilog_tree.specs.Cycle.{circuit_of, IsDrivenOnce}
 use Rattle.verilog_tree.specs.Laws.{HasOneSettling}
-use Rattle.verilog_tree.specs.Shown.{Cycle, RunsOver, inputs_of, ports_of}
+use Rattle.verilog_tree.specs.Shown.{inputs_of, ports_of}
 use Rattle.verilog_tree.specs.declared.fault.ModuleFault.TheVariants.{Redeclared, Undeclared, PortShape, WrongKind, WidthOver, BadSelect, ManyDrivers, NoDriver}
 use Rattle.verilog_tree.specs.Names.{text_of}
 use Rattle.verilog_tree.specs.Checks.{or_else, named, Passes, early_fault, redeclared, undeclared, wrong_port, wrong_kind, width_over, bad_select, many_drivers, no_driver}

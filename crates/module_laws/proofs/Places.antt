@@ -11,7 +11,7 @@ use Rattle.verilog_tree.specs.Meaning.{Shapes}
 use Rattle.verilog_tree.specs.Names.{declaration_in, shapes_in, shapes_of, text_of}
 use Rattle.verilog_tree.specs.Cycle.{circuit_of}
 use Rattle.verilog_tree.specs.Shown.{ports_of}
-use Rattle.verilog_tree.specs.Checks.{or_else, Use, Assigned, Given, Read, Selected, used_name, is_declared, is_of_kind, can_be_assigned, can_be_given, is_wrong_use, is_bad_select, is_port, is_right_port, has_port, port_names, is_over, Side, has_over, sides, action_sides, actions_sides, blocks_sides, assigns_sides, needs_driver, is_driven, Passes, DependsOnItself, uses, declarations, undeclared, wrong_port, wrong_kind, width_over, bad_select, no_driver}
+use Rattle.verilog_tree.specs.Checks.{or_else, Use, Assigned, Given, Read, Selected, used_name, is_of_kind, can_be_assigned, can_be_given, is_wrong_use, is_bad_select, is_port, is_right_port, has_port, port_names, is_over, Side, has_over, sides, action_sides, actions_sides, blocks_sides, assigns_sides, needs_driver, is_driven, Passes, DependsOnItself, uses, declarations, undeclared, wrong_kind, bad_select}
 use Rattle.verilog_text.specs.Order.{unplaced, IsSameButPlaces}
 use Rattle.module_laws.proofs.Passing.{no_first, no_second, none_mapped, NoneFails, none_fails, early_none}
 use Rattle.module_laws.proofs.TextOrder.{unplaced_finds, placed_finds, unplaced_repeats, placed_repeats}

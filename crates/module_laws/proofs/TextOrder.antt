@@ -1,5 +1,5 @@
 -- What a search over the declarations in text order finds doesn't depend on where they stand.
-use Rattle.std.proofs.Common.{◌≡◌, ℕ, Bool, true, false, not, ◌&&◌, ◌||◌, cond, List, [], ◌∷◌, map, find, Option, None, Some, refl, sym, ◌∙◌, ap, arith}
+use Rattle.std.proofs.Common.{◌≡◌, ℕ, Bool, true, false, ◌||◌, cond, List, [], ◌∷◌, map, find, Option, None, Some, refl, sym, ◌∙◌, ap, arith}
 use Rattle.std.specs.Prelude.{◌==◌, nat_le}
 use Rattle.std.specs.List.{list_any}
 use Rattle.std.proofs.lemmas.Bool.{eq-eqb, ne_eqb}
@@ -82,10 +82,10 @@ module _ (test : Signal → Bool) (same : (s : Signal) → test (unplaced s) ≡
 
 -- ---- names that are apart
 
-abbrev IsApart : Signal → Signal → Type 0
+abbrev pub IsApart : Signal → Signal → Type 0
 IsApart s t = t.name ≡ s.name → ⊥
 
-abbrev AllApart : List Signal → Type 0
+abbrev pub AllApart : List Signal → Type 0
 AllApart [] = Unit {0}
 AllApart (s ∷ ss) = Every (IsApart s) ss × AllApart ss
 
@@ -112,7 +112,7 @@ unseen_before s t seen unseen = (or_fails (s.name == t.name) (list_any (λ m. m 
 unseen_more : (s t : Signal) (seen : List ℕ) → IsApart s t → IsUnseen seen t → IsUnseen (s.name ∷ seen) t
 unseen_more s t seen apart unseen = ap (λ (b : Bool). b || list_any (λ m. m == t.name) seen) (ne_eqb s.name t.name (λ e. apart (sym e))) ∙ unseen
 
-none_repeats : (seen : List ℕ) (ss : List Signal) → first_repeat seen (map (λ (s : Signal). s.name) ss) ≡ None → AllApart ss × Every (IsUnseen seen) ss
+pub none_repeats : (seen : List ℕ) (ss : List Signal) → first_repeat seen (map (λ (s : Signal). s.name) ss) ≡ None → AllApart ss × Every (IsUnseen seen) ss
 none_repeats seen [] is = (tt, tt)
 none_repeats seen (s ∷ ss) is =
     let p = head_passes (list_any (λ m. m == s.name) seen) s.name (first_repeat (s.name ∷ seen) (map (λ (s : Signal). s.name) ss)) is in
@@ -159,7 +159,7 @@ apart_to : (ss : List Signal) → AllApart ss → AllApart (in_text_order ss)
 apart_to [] all = tt
 apart_to (s ∷ ss) all = apart_with s (in_text_order ss) (to_order (IsApart s) ss all.0) (apart_to ss all.1)
 
-apart_from : (ss : List Signal) → AllApart (in_text_order ss) → AllApart ss
+pub apart_from : (ss : List Signal) → AllApart (in_text_order ss) → AllApart ss
 apart_from [] all = tt
 apart_from (s ∷ ss) all = let r = apart_without s (in_text_order ss) all in (from_order (IsApart s) ss r.0, apart_from ss r.1)
 

@@ -1,5 +1,5 @@
 -- That a module runs.
-use Rattle.std.specs.Prelude.{ℕ, List}
+use Rattle.std.specs.Prelude.{List}
 use Rattle.verilog_tree.specs.Meaning.{Values}
 use Rattle.verilog_tree.specs.Shown.{Cycle, RunsOver}
 use Rattle.verilog_tree.specs.Tree.{Design}
