@@ -17,17 +17,17 @@ use Rattle.verilog_text.proofs.Numbering.{number_of_name}
 use Rattle.module_laws.proofs.TextOrder.{Every, from_order, nothing_found, AllApart, IsApart, none_repeats, apart_from}
 use Rattle.module_laws.proofs.Passing.{NoneFails, none_fails, none_mapped, no_second, no_first}
 
-true_of : (b : Bool) → not b ≡ false → b ≡ true
+pub true_of : (b : Bool) → not b ≡ false → b ≡ true
 true_of true e = refl
 true_of false e = absurd (cc)
 
-both_true : (a b : Bool) → (a && b) ≡ true → (a ≡ true) × (b ≡ true)
+pub both_true : (a b : Bool) → (a && b) ≡ true → (a ≡ true) × (b ≡ true)
 both_true true b e = (refl, e)
 both_true false b e = absurd (cc)
 
 -- ---- one of the declarations
 
-abbrev Among : Signal → List Signal → Type 0
+abbrev pub Among : Signal → List Signal → Type 0
 Among s [] = ⊥
 Among s (t ∷ ts) = (s ≡ t) ⊎ Among s ts
 
@@ -36,7 +36,7 @@ every_among P s [] all among = absurd among
 every_among P s (t ∷ ts) all (inl is) = subst P (sym is) all.0
 every_among P s (t ∷ ts) all (inr among) = every_among P s ts all.1 among
 
-some_among : (test : Signal → Bool) (ss : List Signal) → list_any test ss ≡ true → (s : Signal) × Among s ss × (test s ≡ true)
+pub some_among : (test : Signal → Bool) (ss : List Signal) → list_any test ss ≡ true → (s : Signal) × Among s ss × (test s ≡ true)
 some_among test [] is = absurd (cc)
 some_among test (s ∷ ss) is = by (test s) refl is (some_among test ss)
   where
@@ -93,7 +93,7 @@ first_with_text (name ∷ names) (suc n) distinct h =
       | inr e ↦ ap (λ (b : Bool). cond (not b) (1 + position_or_len (bytes_eq (name_in names n)) names) 0) e ∙ ap (λ (k : ℕ). 1 + k) (first_with_text names n distinct.1 (omega (arith, h))) ∙ (omega arith)
     ]
 
-read_name : (names : List (List ℕ)) (n c : ℕ) (text : List ℕ) → unwrap_or (slice_get names n) [] ≡ c ∷ text → (n < length names) × (name_in names n ≡ c ∷ text)
+pub read_name : (names : List (List ℕ)) (n c : ℕ) (text : List ℕ) → unwrap_or (slice_get names n) [] ≡ c ∷ text → (n < length names) × (name_in names n ≡ c ∷ text)
 read_name [] n c text is = absurd (cc)
 read_name (name ∷ names) zero c text is = (omega arith, is)
 read_name (name ∷ names) (suc n) c text is = let r = read_name names n c text is in (omega (arith, r.0), r.1)
@@ -139,7 +139,7 @@ module _ (d : Design) (passes : Passes d) (distinct : AreDistinct d.names) where
       let kind : is_of_kind can_be_assigned d (a.target) ≡ false = ap (is_of_kind can_be_assigned d) (is ∙ number) ∙ ap (λ (o : Option Signal). option_map_or (λ (t : Signal). can_be_assigned t.kind) o false) (declared_once d.signals apart s found.1) ∙ ap can_be_assigned input in
       absurd (cc (sym (assigned_kind k a at) ∙ kind))
 
-  ports_there : Every (λ text. not (has_port d text) ≡ false) port_names
+  pub ports_there : Every (λ text. not (has_port d text) ≡ false) port_names
   ports_there = nothing_found (λ text. not (has_port d text)) port_names (no_second _ _ none_wrong.ports)
 
   pub rst_undriven : (k : ℕ) (a : Assignment) → slice_get d.assigns k ≡ Some a → a.target ≡ number_of d (codes "rst") → ⊥

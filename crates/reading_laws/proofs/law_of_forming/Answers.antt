@@ -1,0 +1,5 @@
+use Rattle.reading_laws.proofs.Forming.{writable}
+use Rattle.reading_laws.proofs.law_of_forming.Goals as goal
+
+pub returns : goal.returns
+returns c = writable
