@@ -179,7 +179,7 @@ module _ (cells : List Cell) (netlist : IsNetlist cells) (writable : IsWritable 
           ∙ uncut.wires (suc (suc a.0)) (assignment_of number cell (0 + place)) a.1 (ap (λ (p : ℕ). texts.is_control (text_of (D cells netlist writable) (number p))) here ∙ control_of cells place cell at ∙ data_node)
           ∙ ap (λ (i : Option Item). whole (S cells netlist writable) (tree_for number cell.width i) numbers) is
           ∙ whole_item (S cells netlist writable) numbers number (worth t) (x t) place (length cells) cell.width item (wide_of cells netlist writable place cell at) wire
-          (λ v e. fit.each place cell v at (is ∙ ap Some e)) (subst (OperandsBelow place (length cells) cell.width) is (netlist.well_formed.each place cell at).operands) held
+          (λ v e. fit.each place cell v at data_node (is ∙ ap Some e)) (subst (OperandsBelow place (length cells) cell.width) is (netlist.well_formed.each place cell at).operands) held
           ∙ sym (wire_obeys place item wire (obeys place cell (Some item) at data_node is))
 
       data_number : (place : ℕ) (cell : Cell) (item : Option Item) → slice_get cells place ≡ Some cell → is_control cell ≡ false → cell.item ≡ item → IsSome item

@@ -9,7 +9,7 @@ ghost use Rattle.net_module.specs.Written.{IsWritable};
 ghost use Rattle.uncut_module.specs.Uncut.{HasFitConstants, StepsUncut};
 
 /// In the uncut run of a written module each register, and at each tick each node, has the number that it has in the net's uncut
-/// run, where control nodes read control nodes alone and each constant fits its node's width.
+/// run, where control nodes read control nodes alone and each constant outside control fits its node's width.
 pub fn law_of_uncut_steps()
     ensures { (cells : List Cell) → IsNetlist cells → IsControlClosed cells → HasFitConstants cells → IsWritable cells → StepsUncut cells }
 {}
