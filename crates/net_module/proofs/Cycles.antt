@@ -39,7 +39,7 @@ false_true h = cc
 
 -- ---- what an item is
 
-input_is : (item : Option Item) → is_input item ≡ true → item ≡ Some Input
+pub input_is : (item : Option Item) → is_input item ≡ true → item ≡ Some Input
 input_is None e = absurd (false_true e)
 input_is (Some Input) e = refl
 input_is (Some (Constant v)) e = absurd (false_true e)
@@ -73,7 +73,7 @@ wire_parts false false e = (refl, refl)
 pub register_data : (item : Option Item) → is_register item ≡ true → is_input item ≡ false
 register_data item e = let r = register_is item e in ap is_input r.1
 
-wire_of : (b c : Bool) → b ≡ false → c ≡ false → (not b && not c) ≡ true
+pub wire_of : (b c : Bool) → b ≡ false → c ≡ false → (not b && not c) ≡ true
 wire_of b c e f = rw (e, f) refl
 
 -- ---- conditions and blocks
@@ -151,7 +151,7 @@ module _ (cells : List Cell) (netlist : IsNetlist cells) (writable : IsWritable 
   port_source : (n : ℕ) → n < 5 → IsSource C n
   port_source n lt = undriven n (λ e. omega arith) (λ e. omega arith) (λ place cell at wire e. omega (arith, wire_number place cell at wire))
 
-  register_source : (place : ℕ) (cell : Cell) → slice_get cells place ≡ Some cell → is_register cell.item ≡ true → IsSource C (N place)
+  pub register_source : (place : ℕ) (cell : Cell) → slice_get cells place ≡ Some cell → is_register cell.item ≡ true → IsSource C (N place)
   register_source place cell at reg =
       let least = number_least cells 7 place cell at (register_data cell.item reg) in
       undriven (N place) (λ e. omega arith) (λ e. omega arith)
@@ -167,13 +167,13 @@ module _ (cells : List Cell) (netlist : IsNetlist cells) (writable : IsWritable 
     pub settled_assign : (k : ℕ) (a : Assignment) → slice_get D.assigns k ≡ Some a → now a.target ≡ assigned S now a.target a.value
     settled_assign k a at = settling.settled k (driver_of S a) (slice_get-map (driver_of S) D.assigns k ∙ ap (option_map (driver_of S)) at)
 
-    rst_is : now 2 ≡ bit_of c.rst
+    pub rst_is : now 2 ≡ bit_of c.rst
     rst_is = settling.sources 2 (port_source 2 (omega arith))
 
-    ce_is : now 3 ≡ bit_of c.ce
+    pub ce_is : now 3 ≡ bit_of c.ce
     ce_is = settling.sources 3 (port_source 3 (omega arith))
 
-    in_data_is : now 4 ≡ c.in_data
+    pub in_data_is : now 4 ≡ c.in_data
     in_data_is = settling.sources 4 (port_source 4 (omega arith))
 
     rst_holds : condition_holds S now (tree.Name 2) ≡ c.rst

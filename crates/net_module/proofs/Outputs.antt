@@ -33,7 +33,7 @@ false_true h = cc
 
 -- ---- a pattern by its sign
 
-signed_value-true : (w n : ℕ) → signed_value true w n ≡ signed w n
+pub signed_value-true : (w n : ℕ) → signed_value true w n ≡ signed w n
 unfolding signed
 signed_value-true w n = by (nat_lt n (2 ^ (w - 1))) (nat_le (2 ^ (w - 1)) n) refl refl
   where

@@ -27,7 +27,7 @@ false_true : false ≡ true → ⊥
 false_true h = cc
 
 -- the text of a node's name stands at its number
-text_at : (cells : List Cell) (first p place : ℕ) (cell : Cell) → slice_get cells place ≡ Some cell → is_input cell.item ≡ false
+pub text_at : (cells : List Cell) (first p place : ℕ) (cell : Cell) → slice_get cells place ≡ Some cell → is_input cell.item ≡ false
     → (i : ℕ) × (number_in cells first place ≡ first + i) × (slice_get (node_texts cells p) i ≡ Some (node_text cell (p + place)))
 text_at [] first p place cell at data_node = absurd (omega (arith, slice_get_within {A = Cell} [] place cell at))
 text_at (x ∷ cells) first p zero cell at data_node =
