@@ -10,3 +10,4 @@ pub mod Passes
 pub mod PassesUses
 pub mod PassesRest
 pub mod PassesDrivers
+pub mod NodeTexts

@@ -134,7 +134,7 @@ shape_name OutQ small = (refl, refl, refl)
 
 -- ---- different shapes have different texts
 
-tail_same : (a b : ℕ) (xs ys : List ℕ) → a ∷ xs ≡ b ∷ ys → (a ≡ b) × (xs ≡ ys)
+pub tail_same : (a b : ℕ) (xs ys : List ℕ) → a ∷ xs ≡ b ∷ ys → (a ≡ b) × (xs ≡ ys)
 tail_same a b xs ys e = (head_same, rest_same)
   where
     head_same : a ≡ b
@@ -144,7 +144,7 @@ tail_same a b xs ys e = (head_same, rest_same)
     rest_same = cc
 
 -- the digits before the first byte that is none
-split_digits : (ds es r s : List ℕ) → AllDigits ds → AllDigits es → ds ++ 95 ∷ r ≡ es ++ 95 ∷ s → (ds ≡ es) × (r ≡ s)
+pub split_digits : (ds es r s : List ℕ) → AllDigits ds → AllDigits es → ds ++ 95 ∷ r ≡ es ++ 95 ∷ s → (ds ≡ es) × (r ≡ s)
 split_digits [] [] r s p q same = (refl, (tail_same 95 95 r s same).1)
 split_digits [] (e ∷ es) r s p q same = absurd (omega (arith, (tail_same 95 e r (es ++ 95 ∷ s) same).0, q.1))
 split_digits (d ∷ ds) [] r s p q same = absurd (omega (arith, (tail_same d 95 (ds ++ 95 ∷ r) s same).0, p.1))
