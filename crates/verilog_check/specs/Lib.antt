@@ -1,0 +1,6 @@
+pub mod Adding
+pub mod Drives
+pub mod Early
+pub mod Telling
+pub mod Uses
+pub mod Widths
