@@ -1,0 +1,14 @@
+use Rattle.std.proofs.Common.{length-take, take, ap, arith}
+use Rattle.std.proofs.lemmas.Bool.{ne_eqb}
+use Rattle.sample_file.proofs.LineSteps.{rows-ended, rows-full}
+use Rattle.sample_file.proofs.lines.Lines.add.Goals as goal
+
+pub returns-then-byte-eq10-clause-rows : goal.returns-then-byte-eq10-clause-rows
+returns-then-byte-eq10-clause-rows c = λ rest.
+    rows-ended c.args.self.now c.self.inside.fields c.self.inside.ended (take c.self.inside.held c.self.inside.room.items) (take c.self.inside.held c.deref.result.now) c.self.inside.fault c.args.byte c.line_row-answer.result rest
+    c.self.view_is c.requires c.if-byte-eq10.true c.self.invariant.one (ap (take c.self.inside.held) c.deref.ensures.value) c.line_row-answer.ensures
+
+pub returns-then-self-ge-ROOM-clause-rows : goal.returns-then-self-ge-ROOM-clause-rows
+returns-then-self-ge-ROOM-clause-rows c = λ rest.
+    rows-full c.args.self.now c.self.inside.fields c.self.inside.ended (take c.self.inside.held c.self.inside.room.items) c.self.inside.fault c.args.byte rest c.self.view_is c.requires (ne_eqb c.args.byte 10 c.if-byte-eq10.false)
+    c.self.invariant.one (omega (arith, length-take c.self.inside.held c.self.inside.room.items, c.self.invariant.size, c.if-self-ge-ROOM.true)) c.if-self-ge-LINES.false

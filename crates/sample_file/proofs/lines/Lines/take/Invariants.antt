@@ -1,0 +1,10 @@
+use Rattle.std.proofs.Common.{◌≡◌, ◌++◌, ℕ, List, drop, None}
+use Rattle.sample_file.specs.Reading.{rows_from}
+use Rattle.sample_file.proofs.lines.Lines.take.Given as goal
+
+abbrev pub invariant-loop-index : goal.invariant-loop-index
+invariant-loop-index l = record {
+  rows : (rest : List ℕ) → rows_from l.initial.self (l.piece ++ rest) ≡ rows_from l.self (drop l.index l.piece ++ rest);
+  fault : l.self.fault ≡ None;
+  fields : l.self.fields ≡ l.initial.self.fields;
+}

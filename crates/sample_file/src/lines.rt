@@ -1,0 +1,143 @@
+// A file of rows, in pieces.
+ghost use Rattle.std.specs.Prelude.{◌≡◌, ◌≤◌, ◌<◌, ◌-◌, ◌+◌, ◌^◌, ◌⊎◌, ℕ, List, [], ◌∷◌, ◌++◌, length, drop, take, true, Some, None, Ok, Err, slice_get, IfOk, IfErr, IfSome, IfNone, OnSome, OnOk};
+ghost use Rattle.sample_file.specs.Reading.{Place, start, rows_from, row_then, no_rows, refused};
+
+use crate::fault::LineFault;
+use crate::line::{LINES, line_row};
+use crate::row::Row;
+use mr_values::Memory;
+use std::alloc::Global;
+use std::marker::Model;
+
+/// A line of 4,096 bytes and a CR.
+const ROOM: usize = 4097;
+
+/// How much of a piece was taken, and the row that was found at its end.
+#[derive(Clone, Copy, Debug, PartialEq, Eq)]
+pub struct Step {
+    pub taken: usize,
+    pub found: Option<Row>,
+}
+
+/// A reader of rows. It keeps no more of the file than the bytes of one line.
+#[derive(Drop)]
+pub struct Lines {
+    fields: u8,
+    ended: u64,
+    room: Vec<u8>,
+    held: usize,
+    fault: Option<LineFault>,
+}
+
+impl Model for Lines {
+    ghost use Rattle.std.specs.Prelude.{take};
+    ghost use Rattle.sample_file.specs.Reading.{Place};
+    ghost use Rattle.sample_file.specs.Kept.{IsKept};
+
+    ghost Value = { Place };
+
+    ghost view = { λ s. record { fields = s.fields; ended = s.ended; begun = take s.held s.room.items; fault = s.fault } };
+
+    ghost invariant = { λ s. IsKept s.ended s.room.items s.held };
+}
+
+impl Lines {
+    /// A reader of lines of one field or of three. Fails only for want of memory.
+    pub fn new(alloc: Global, fields: u8) -> Result<Lines, Memory>
+        requires { (fields ≡ 1) ⊎ (fields ≡ 3) }
+        ensures { IfOk result (λ lines. lines ≡ start fields) }
+    {
+        Ok(Lines {
+            fields,
+            ended: 0,
+            room: Vec::from_elem(alloc, 0, ROOM)?,
+            held: 0,
+            fault: None,
+        })
+    }
+
+    // What a byte gives: a row or a fault at the end of a line, or a fault within it.
+    fn add(&mut self, byte: u8) -> Result<Option<Row>, LineFault>
+        requires { self.old.fault ≡ None }
+        ensures rows { (rest : List ℕ) → rows_from self.old (byte ∷ rest) ≡ row_then result (rows_from self.new rest) }
+        ensures fields { self.new.fields ≡ self.old.fields }
+        ensures fault { self.new.fault ≡ None }
+        ensures row { IfOk result (λ found. OnSome found (byte ≡ 10)) }
+    {
+        if self.ended + 1 >= LINES {
+            return Err(LineFault::TooManyLines);
+        }
+        if byte == b'\n' {
+            let answer = line_row(self.fields, self.ended + 1, &self.room[..self.held]);
+            self.ended += 1;
+            self.held = 0;
+            return answer;
+        }
+        if self.held >= ROOM {
+            return Err(LineFault::LongLine {
+                line: self.ended + 1,
+            });
+        }
+        self.room[self.held] = byte;
+        self.held += 1;
+        Ok(None)
+    }
+
+    // The same, and a fault is kept.
+    fn put(&mut self, byte: u8) -> Result<Option<Row>, LineFault>
+        requires { self.old.fault ≡ None }
+        ensures rows { (rest : List ℕ) → rows_from self.old (byte ∷ rest) ≡ row_then result (rows_from self.new rest) }
+        ensures fields { self.new.fields ≡ self.old.fields }
+        ensures fault { IfErr result (λ fault. self.new.fault ≡ Some fault) }
+        ensures none { OnOk result (self.new.fault ≡ None) }
+        ensures row { IfOk result (λ found. OnSome found (byte ≡ 10)) }
+    {
+        let answer = self.add(byte);
+        if let Err(fault) = answer {
+            self.fault = Some(fault);
+        }
+        answer
+    }
+
+    /// Takes bytes of the file up to the end of the first line with a row in it, and else the whole piece. It fails at the first
+    /// refused line, and at each call after one, with the same fault. It takes no memory.
+    pub fn take(&mut self, piece: &[u8]) -> Result<Step, LineFault>
+        // Whatever follows, the rows are the one that was found and those that the reader gives from here on.
+        ensures rows { IfOk result (λ step. (rest : List ℕ) → rows_from self.old (piece.now ++ rest) ≡ row_then (Ok step.found) (rows_from self.new (drop step.taken piece.now ++ rest))) }
+        ensures within { IfOk result (λ step. step.taken ≤ length piece.now) }
+        ensures whole { IfOk result (λ step. IfNone step.found (step.taken ≡ length piece.now)) }
+        ensures line { IfOk result (λ step. OnSome step.found ((0 < step.taken) × (slice_get piece.now (step.taken - 1) ≡ Some 10))) }
+
+        ensures fault { IfErr result (λ fault. (rest : List ℕ) → rows_from self.old (piece.now ++ rest) ≡ refused fault) }
+        ensures kept { IfErr result (λ fault. self.new.fault ≡ Some fault) }
+        ensures fields { self.new.fields ≡ self.old.fields }
+    {
+        if let Some(fault) = self.fault {
+            return Err(fault);
+        }
+        for (index, byte) in piece.iter().enumerate() {
+            if let Some(row) = self.put(*byte)? {
+                return Ok(Step {
+                    taken: index + 1,
+                    found: Some(row),
+                });
+            }
+        }
+        Ok(Step {
+            taken: piece.len(),
+            found: None,
+        })
+    }
+
+    /// The row of a last line without an end, and none where there is none. It fails where that line is refused, and with the fault
+    /// of the first line that was.
+    pub fn finish(self) -> Result<Option<Row>, LineFault>
+        ensures { rows_from self [] ≡ row_then result no_rows }
+    {
+        match self.fault {
+            Some(fault) => Err(fault),
+            None if self.held == 0 => Ok(None),
+            None => line_row(self.fields, self.ended + 1, &self.room[..self.held]),
+        }
+    }
+}
