@@ -205,7 +205,7 @@ other_number text (name ∷ names) all =
 -- ---- the texts of the nodes
 
 module _ (cells : List Cell) (netlist : IsNetlist cells) (small : AreSmall cells) where
-  small_shape : (place : ℕ) (cell : Cell) → slice_get cells place ≡ Some cell → IsSmallShape (shape_for cell.name cell.group place)
+  pub small_shape : (place : ℕ) (cell : Cell) → slice_get cells place ≡ Some cell → IsSmallShape (shape_for cell.name cell.group place)
   small_shape place cell at =
       let inside : place < 2 ^ 64 = omega (arith, slice_get_within cells place cell at, small.places) in
       by cell.name refl inside
@@ -232,16 +232,16 @@ module _ (cells : List Cell) (netlist : IsNetlist cells) (small : AreSmall cells
           netlist.well_formed.apart j k c d m at found e (f ∙ ap Some one)
 
   -- the rest of the cells, from a place on
-  record IsTail (cs : List Cell) (p : ℕ) : Type 0 where
-    each : (k : ℕ) (cell : Cell) → slice_get cs k ≡ Some cell → slice_get cells (p + k) ≡ Some cell
+  pub record IsTail (cs : List Cell) (p : ℕ) : Type 0 where
+    pub each : (k : ℕ) (cell : Cell) → slice_get cs k ≡ Some cell → slice_get cells (p + k) ≡ Some cell
 
-  tail_more : (x : Cell) (cs : List Cell) (p : ℕ) → IsTail (x ∷ cs) p → IsTail cs (p + 1)
+  pub tail_more : (x : Cell) (cs : List Cell) (p : ℕ) → IsTail (x ∷ cs) p → IsTail cs (p + 1)
   tail_more x cs p is = record { each = λ k cell at. ap (slice_get cells) (let e : p + 1 + k ≡ p + suc k = omega arith in e) ∙ is.each (suc k) cell at }
 
-  tail_here : (x : Cell) (cs : List Cell) (p : ℕ) → IsTail (x ∷ cs) p → slice_get cells p ≡ Some x
+  pub tail_here : (x : Cell) (cs : List Cell) (p : ℕ) → IsTail (x ∷ cs) p → slice_get cells p ≡ Some x
   tail_here x cs p is = ap (slice_get cells) (let e : p ≡ p + 0 = omega arith in e) ∙ is.each 0 x refl
 
-  tail_all : IsTail cells 0
+  pub tail_all : IsTail cells 0
   tail_all = record { each = λ k cell at. ap (slice_get cells) (let e : 0 + k ≡ k = omega arith in e) ∙ at }
 
   keep_other : (text : List ℕ) (b : Bool) (name : List ℕ) (rest : List (List ℕ)) → bytes_eq name text ≡ false → AllOther text rest → AllOther text (unless b name rest)
