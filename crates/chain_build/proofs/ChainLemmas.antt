@@ -29,11 +29,15 @@ use Rattle.pipeline_balance.specs.Gate.{IsTickOf, IsBitOf, Carries}
 use Rattle.plan_laws.specs.Laws.{IsBetween}
 use Rattle.rounding_stage.proofs.MapLemmas.{fits_between}
 use Rattle.span_ranges.specs.Span.{IsInSpan}
+use Rattle.stage_law.specs.declared.stage.Cost.{Cost}
 use Rattle.chain_build.specs.declared.output.Outputs.{Outputs}
 use Rattle.chain_build.specs.Added.{IsGrown, AreNameless, CarriesChain, IsChained}
 use Rattle.chain_build.specs.Built.{are_built, is_built, AreBuiltGroups}
 use Rattle.chain_build.specs.ChainNet.{HasInput, HasSamples, ShowsValues, IsChainNet}
+use Rattle.chain_build.specs.GroupCosts.{AreUngrouped, AreApart, HasCosts}
 use Rattle.chain_build.specs.Output.{AddsOutputs}
+use Rattle.chain_build.proofs.CostsSoFar.{HasCosts-outputs}
+use Rattle.chain_build.proofs.Counting.{AreApart-before}
 use Rattle.chain_build.proofs.Grown.{IsGrown-trans}
 
 -- ---- which plans are built
@@ -88,8 +92,11 @@ module _ {n1 : NetView} {node : Node} {width : ℕ} (a : Adds empty n1 node widt
   pub nameless : AreNameless n1.cells
   nameless = record { free = λ name. record { none = λ k cell there is. let e : None ≡ Some name = sym (ap (λ (c : Cell). c.name) (only_input k cell there)) ∙ is in absurd (cc) } }
 
-  bound1 : IsBound n1.cells
+  pub bound1 : IsBound n1.cells
   bound1 = record { each = λ k cell there. subst (λ (c : Cell). IsSome c.item) (sym (only_input k cell there)) refl }
+
+  pub ungrouped1 : AreUngrouped n1.cells
+  ungrouped1 = record { each = λ cell k there. ap (λ (c : Cell). c.group) (only_input k cell there) }
 
   closed1 : IsControlClosed n1.cells
   closed1 = record { each = λ k cell there control. absurd (let f : false ≡ true = sym (ap is_control (only_input k cell there)) ∙ control in cc) }
@@ -175,3 +182,7 @@ module _ {n1 n2 n3 : NetView} {node : Node} {stream : Stream} {outputs : Outputs
     valid = subst (λ (p : ℕ). IsBitOf n3.cells (IsTickOf p (latency width ticks elements)) outputs.out_valid) chained.period
         (subst (λ (o : ℕ). IsBitOf n3.cells (IsTickOf stream.period (o + 1)) outputs.out_valid) chained.offset outs.bit);
   }
+
+  -- the outputs cost nothing
+  pub chain_costs : {costs : List Cost} → IsWellFormed n3.cells → (AreApart n2.cells → HasCosts (groups elements) costs n2.cells) → HasCosts (groups elements) costs n3.cells
+  chain_costs formed of_groups = HasCosts-outputs outs.adders outs.named (of_groups (AreApart-before outs.grown.extends (record { apart = formed.apart })))

@@ -5,3 +5,5 @@ pub mod GroupFacts
 pub mod SoFar
 pub mod OutputLemmas
 pub mod ChainLemmas
+pub mod Counting
+pub mod CostsSoFar

@@ -9,21 +9,25 @@ use Rattle.net_graph.specs.declared.cell.Node.{Node}
 use Rattle.net_graph.specs.declared.cell.Stream.{Stream}
 use Rattle.net_graph.specs.declared.cell.Item.TheVariants.{Shl}
 use Rattle.net_graph.specs.declared.name.Name.{Name}
+use Rattle.net_graph.specs.declared.name.NameKind.{NameKind}
 use Rattle.net_graph.specs.declared.name.NameKind.TheVariants.{Control, Output, Valid}
 use Rattle.net_graph.specs.Cells.{NetView, cell_at}
 use Rattle.net_graph.specs.Name.{is_control, is_control_name, is_input}
 use Rattle.net_graph.specs.WellFormed.{IsFree}
+use Rattle.net_graph.specs.Count.{total, adder, window, table, windows_in, tables_in, is_window, is_table, has_kind, one_if}
 use Rattle.net_graph.specs.Cut.{Cut, IsCut}
 use Rattle.net_graph.specs.Run.{Values, IsRun}
 use Rattle.net_graph.specs.Grow.{Extends, Grows, Adds, IsNamedAs, named_as}
 use Rattle.net_graph.proofs.Lists.{slice_get-set_same}
 use Rattle.net_graph.proofs.CellLemmas.{cell_at-is, cell_at-there}
-use Rattle.net_graph.proofs.CountLemmas.{adders_plain}
+use Rattle.net_graph.proofs.CountLemmas.{adders_plain, total_set}
 use Rattle.net_graph.proofs.NetLemmas.{Extends-trans, cell_of_added}
 use Rattle.net_graph.proofs.GrowLemmas.{Grows-refl, Grows-trans, Grows-named, IsOfControl-later}
 use Rattle.pipeline_balance.specs.Numbered.{IsRegister, LeavesFree, name_of}
 use Rattle.pipeline_balance.specs.Gate.{IsTickOf, IsBitOf, IsCounter, AddsGate, HasTaken, shown, IsTaken, Carries}
+use Rattle.pipeline_balance.specs.Costs.{SameAdders, SameNamed}
 use Rattle.pipeline_balance.specs.Tree.{AddsNode}
+use Rattle.pipeline_balance.proofs.CostLemmas.{SameAdders-refl, SameAdders-trans, SameAdders-plain, SameNamed-refl, SameNamed-trans, SameNamed-adds, nothing_more, other_kind}
 use Rattle.pipeline_balance.proofs.NumberedLemmas.{width-later, IsRegister-later, LeavesFree-refl}
 use Rattle.pipeline_balance.proofs.PairLemmas.{AddsNode-adds}
 use Rattle.pipeline_balance.proofs.TakenLemmas.{IsBitOf-later}
@@ -36,6 +40,8 @@ pub IsCutTo-same : (net : NetView) (node : Node) (width : ℕ) → node.place < 
 IsCutTo-same net node width inside same = record {
   grows = Grows-refl net;
   names = LeavesFree-refl net.cells (λ name. ⊥);
+  adders = SameAdders-refl net.cells;
+  named = SameNamed-refl net.cells;
   within = inside;
   wide = same;
   keeps = λ cut law inputs values run t fits. refl;
@@ -51,6 +57,8 @@ IsCutTo-shl {old} {new} {from} {to} {width} data_group wide a =
     record {
       grows = node.grows;
       names = node.names;
+      adders = SameAdders-plain a refl;
+      named = SameNamed-adds a;
       within = node.computes.within;
       wide = ap (λ (c : Cell). c.width) (cell_at-is new.cells to.place _ (cell_of_added a));
       keeps = λ cut law inputs values run t fits.
@@ -115,6 +123,28 @@ module _ {n0 n1 n2 n3 n4 : NetView} {from : Stream} {node out_q out_valid : Node
         ∙ cut_node.keeps cut law inputs values (x1.runs cut law inputs values run) at fit
         ∙ carried k
 
+    here : slice_get n4.cells out_valid.place ≡ Some (cell_at n4.cells out_valid.place)
+    here = cell_at-there n4.cells out_valid.place inside
+
+    valid_adders : SameAdders n4.cells n5.cells
+    valid_adders = record { each = λ group some. ap (total (adder group)) n.cells ∙ total_set (adder group) n4.cells out_valid.place (cell_at n4.cells out_valid.place) (named_as (cell_at n4.cells out_valid.place) (name_of 0 Valid 0)) here refl }
+
+    -- a node without a name is no window's and no table
+    unnamed : (is : NameKind → Bool) (group : ℕ) → one_if (has_kind is group (cell_at n4.cells out_valid.place).name) ≡ 0
+    unnamed is group = ap (λ (o : Option Name). one_if (has_kind is group o)) (counter_nameless b)
+
+    valid_named : SameNamed n4.cells n5.cells
+    valid_named = record {
+      windows = λ group. ap (total (window group)) n.cells ∙ total_set (window group) n4.cells out_valid.place (cell_at n4.cells out_valid.place) (named_as (cell_at n4.cells out_valid.place) (name_of 0 Valid 0)) here (other_kind is_window group (name_of 0 Valid 0) refl ∙ sym (unnamed is_window group));
+      tables = λ group. ap (total (table group)) n.cells ∙ total_set (table group) n4.cells out_valid.place (cell_at n4.cells out_valid.place) (named_as (cell_at n4.cells out_valid.place) (name_of 0 Valid 0)) here (other_kind is_table group (name_of 0 Valid 0) refl ∙ sym (unnamed is_table group));
+    }
+
+    taken_named : SameNamed n2.cells n3.cells
+    taken_named = record {
+      windows = λ group. t.windows group ∙ nothing_more (windows_in group n2.cells) (one_if (has_kind is_window group (Some (name_of 0 Output 0)))) (other_kind is_window group (name_of 0 Output 0) refl);
+      tables = λ group. t.tables group ∙ nothing_more (tables_in group n2.cells) (one_if (has_kind is_table group (Some (name_of 0 Output 0)))) (other_kind is_table group (name_of 0 Output 0) refl);
+    }
+
     pub AddsOutputs-named : AddsOutputs low high n0 n5 from (record { out_q = out_q; out_valid = out_valid })
     AddsOutputs-named = record {
       grown = IsGrown-trans n0.cells n4.cells n5.cells (IsGrown-grows (Grows-trans cut_node.grows (Grows-trans g.grows (Grows-trans t.grows b.grows)))) (IsGrown-grows named_grows);
@@ -127,4 +157,6 @@ module _ {n0 n1 n2 n3 n4 : NetView} {from : Stream} {node out_q out_valid : Node
       shown_width = ap (λ (c : Cell). c.width) valid_is ∙ ap (λ (c : Cell). c.width) (cell_at-is n4.cells out_valid.place b.shape.cell b.shape.there) ∙ b.shape.same_width;
       shown_control = IsOfControl-later n4.cells n5.cells out_valid.place named_grows.extends (record { cell = b.shape.cell; there = b.shape.there; control = b.shape.same_control });
       bit = IsBitOf-later b.bit_of named_grows.extends;
+      adders = SameAdders-trans cut_node.adders (SameAdders-trans g.adders (SameAdders-trans t.adders (SameAdders-trans b.adders valid_adders)));
+      named = SameNamed-trans cut_node.named (SameNamed-trans g.named (SameNamed-trans taken_named (SameNamed-trans b.named valid_named)));
     }

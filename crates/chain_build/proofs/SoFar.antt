@@ -253,9 +253,17 @@ SoFar-plan plan facts old net from rest rest_is inside nameless offset period ac
 
 -- ---- the end
 
+-- no group is left
+pub SoFar-none : {width ticks : ℕ} {whole : List Element} {old net : NetView} {from last : Stream} {rest : List Element} {number : ℕ} → SoFar width ticks whole old net from last rest [] number → groups rest ≡ []
+SoFar-none {rest = rest} so = none_left (groups rest) so.left_is
+  where
+    none_left : (gs : List Group) → [] ≡ group_facts so.first so.stream gs → gs ≡ []
+    none_left [] e = refl
+    none_left (g ∷ gs) e = absurd (cc)
+
 pub SoFar-end : {width ticks : ℕ} {whole : List Element} {old net : NetView} {from last : Stream} {rest : List Element} {number : ℕ} → SoFar width ticks whole old net from last rest [] number → IsChained width ticks whole old net from last
 SoFar-end {width} {ticks} {whole} {old} {net} {from} {last} {rest} {number} so =
-    let none : groups rest ≡ [] = none_left (groups rest) so.left_is in
+    let none = SoFar-none so in
     let stream_is : so.stream ≡ last_stream width ticks whole = sym (ap (λ (gs : List Group). after_all gs so.stream) none) ∙ so.end_is in
     let small = walk_end (subst (λ (gs : List Group). IsWalk ticks so.first so.tally gs so.stream) none so.walk) in
     let done_is : (v : Sequence) → so.done v ≡ chain whole v = λ v. sym (ap (λ (gs : List Group). apply_groups gs (so.done v)) none) ∙ so.whole_is v ∙ sym (chain-groups whole v) in
@@ -274,7 +282,3 @@ SoFar-end {width} {ticks} {whole} {old} {net} {from} {last} {rest} {number} so =
       whole = λ p inputs values v h run carried. subst (λ (w : Sequence). Carries values last w) (done_is v) (so.whole_carries p inputs values v h run carried);
       names = λ name other none. so.names name other (inr none);
     }
-  where
-    none_left : (gs : List Group) → [] ≡ group_facts so.first so.stream gs → gs ≡ []
-    none_left [] e = refl
-    none_left (g ∷ gs) e = absurd (cc)

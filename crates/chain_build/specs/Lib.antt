@@ -1,4 +1,5 @@
 pub mod Added
 pub mod Built
 pub mod ChainNet
+pub mod GroupCosts
 pub mod Output

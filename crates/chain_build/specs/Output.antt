@@ -11,6 +11,7 @@ use Rattle.net_graph.specs.Control.{IsOfControl}
 use Rattle.net_graph.specs.Cut.{Cut, IsCut}
 use Rattle.net_graph.specs.Grow.{Grows}
 use Rattle.net_graph.specs.Run.{Values, IsRun}
+use Rattle.pipeline_balance.specs.Costs.{SameAdders, SameNamed}
 use Rattle.pipeline_balance.specs.Gate.{IsTickOf, IsBitOf, Carries}
 use Rattle.pipeline_balance.specs.Numbered.{IsRegister, LeavesFree, name_of}
 use Rattle.chain_build.specs.declared.output.Outputs.{Outputs}
@@ -20,6 +21,8 @@ use Rattle.chain_build.specs.Added.{IsGrown}
 pub record IsCutTo (old new : NetView) (from : Node) (width : ℕ) (to : Node) : Type 0 where
   pub grows : Grows old new
   pub names : LeavesFree old.cells new.cells (λ name. ⊥)
+  pub adders : SameAdders old.cells new.cells
+  pub named : SameNamed old.cells new.cells
   pub within : to.place < length new.cells
   pub wide : (cell_at new.cells to.place).width ≡ width
   pub keeps : (cut : Cut) → IsCut cut → (inputs : ℕ → ℤ) (values : Values) → IsRun cut new.cells inputs values → (t : ℕ) → FitsWidth width (values t from.place) → values t to.place ≡ values t from.place
@@ -31,7 +34,7 @@ TakesOver cells from width register =
     → Carries values (record { node = register; period = from.period; offset = from.offset + 1 }) v
 
 -- The output register has the least width that holds the span, and carries the stream one tick later; the bit shown as `out_valid` is
--- set exactly at these ticks.
+-- set exactly at these ticks. No stage's group has more adders, and no group more window registers or tables.
 pub record AddsOutputs (low high : ℤ) (old new : NetView) (from : Stream) (outputs : Outputs) : Type 0 where
   pub grown : IsGrown old.cells new.cells
   pub width : ℕ
@@ -43,3 +46,5 @@ pub record AddsOutputs (low high : ℤ) (old new : NetView) (from : Stream) (out
   pub shown_width : (cell_at new.cells outputs.out_valid.place).width ≡ 1
   pub shown_control : IsOfControl new.cells outputs.out_valid.place
   pub bit : IsBitOf new.cells (IsTickOf from.period (from.offset + 1)) outputs.out_valid
+  pub adders : SameAdders old.cells new.cells
+  pub named : SameNamed old.cells new.cells

@@ -1,24 +1,28 @@
 // The net of a plan.
 
 ghost use Rattle.std.specs.Prelude.{◌≡◌, pos, ◌≤ℤ◌, true, IfOk};
+ghost use Rattle.mr_values.specs.Timing.{groups};
 ghost use Rattle.mr_values.specs.Value.{size};
 ghost use Rattle.plan_check.specs.Accepted.{IsAccepted, AreFacts};
 ghost use Rattle.chain_build.specs.Built.{are_built, is_built, is_parallel};
 ghost use Rattle.chain_build.specs.ChainNet.{IsChainNet};
+ghost use Rattle.chain_build.specs.GroupCosts.{HasCosts};
 
 use crate::groups::add_groups;
 use crate::output::add_outputs;
 use mr_values::{Element, Form, Memory, Plan};
 use net_graph::{Net, Netlist, Node, Stream};
 use plan_check::Facts;
+use stage_law::Cost;
 use std::alloc::Global;
 
-/// A net with its output register and the node that is shown as `out_valid`.
+/// A net with its output register, the node that is shown as `out_valid`, and the cost of each group.
 #[derive(Drop)]
 pub struct Built {
     pub net: Netlist,
     pub out_q: Node,
     pub out_valid: Node,
+    pub costs: Vec<Cost>,
 }
 
 // Whether the form is that of one tree for each phase.
@@ -69,7 +73,10 @@ pub fn build(alloc: Global, plan: &Plan, facts: &Facts) -> Result<Built, Memory>
     requires accepted { IsAccepted plan.now }
     requires are_facts { AreFacts (size plan.now.width) (size plan.now.ticks) plan.now.elements facts.now }
     requires built { are_built plan.now.elements ≡ true }
-    ensures { IfOk result (λ b. IsChainNet (size plan.now.width) (size plan.now.ticks) plan.now.elements b.net b.out_q b.out_valid) }
+    ensures chain { IfOk result (λ b. IsChainNet (size plan.now.width) (size plan.now.ticks) plan.now.elements b.net b.out_q b.out_valid) }
+
+    // What each group costs, in adders, window registers and tables.
+    ensures costs { IfOk result (λ b. HasCosts (groups plan.now.elements) b.costs.items b.net) }
 {
     let mut net = Net::new(alloc);
     let node = net.input(width_of(plan))?;
@@ -85,6 +92,7 @@ pub fn build(alloc: Global, plan: &Plan, facts: &Facts) -> Result<Built, Memory>
             net,
             out_q: outputs.out_q,
             out_valid: outputs.out_valid,
+            costs: chained.costs,
         }),
         Err(_) => unreachable!(),
     }

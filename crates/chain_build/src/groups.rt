@@ -5,6 +5,7 @@ ghost use Rattle.std.specs.Option.{option_map};
 ghost use Rattle.mr_values.specs.Value.{size};
 ghost use Rattle.mr_values.specs.Timing.{groups, taps_of};
 ghost use Rattle.net_graph.specs.Grow.{Extends};
+ghost use Rattle.net_graph.specs.WellFormed.{IsBound};
 ghost use Rattle.plan_check.specs.Accepted.{IsAccepted, AreFacts};
 ghost use Rattle.plan_check.specs.Amounts.{gain};
 ghost use Rattle.plan_check.specs.Groups.{group_of, filter_of, IsGroup};
@@ -13,6 +14,7 @@ ghost use Rattle.stage_law.specs.Realises.{Realises, IsUnused};
 ghost use Rattle.stage_law.specs.Streams.{HasRoom};
 ghost use Rattle.chain_build.specs.Built.{IsBuiltGroup, AreBuiltGroups};
 ghost use Rattle.chain_build.specs.Added.{IsTaking, IsGroupAdded, AreNameless, IsChained};
+ghost use Rattle.chain_build.specs.GroupCosts.{AreUngrouped, AreApart, HasCosts};
 
 use mr_values::{Memory, Plan};
 use net_graph::{Net, Stream};
@@ -132,12 +134,15 @@ pub(crate) fn add_groups(
 ) -> Result<Chained, Memory>
     requires within { from.node.place < length net.old.cells }
     requires nameless { AreNameless net.old.cells }
+    requires bound { IsBound net.old.cells }
+    requires ungrouped { AreUngrouped net.old.cells }
     requires offset { from.offset ≡ 0 }
     requires period { from.period ≡ size plan.now.ticks }
     requires accepted { IsAccepted plan.now }
     requires are_facts { AreFacts (size plan.now.width) (size plan.now.ticks) plan.now.elements facts.now }
     requires built { AreBuiltGroups (groups plan.now.elements) }
     ensures ok { IfOk result (λ c. IsChained (size plan.now.width) (size plan.now.ticks) plan.now.elements net.old net.new from c.stream) }
+    ensures costs { IfOk result (λ c. AreApart net.new.cells → HasCosts (groups plan.now.elements) c.costs.items net.new.cells) }
 {
     let mut rest = plan.elements.as_slice();
     let mut last = from;

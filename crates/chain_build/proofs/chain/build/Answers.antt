@@ -2,7 +2,7 @@ use Rattle.std.proofs.Common.{◌≡◌, ◌≤◌, subst, sym, List, ℕ, ℤ, 
 use Rattle.std.proofs.lemmas.Int.{to_z-of_z}
 use mir.Syntax.{w128}
 use mir.Val.{SFits}
-use Rattle.mr_values.specs.Timing.{last_stream}
+use Rattle.mr_values.specs.Timing.{groups, last_stream}
 use Rattle.mr_values.specs.Value.{size}
 use Rattle.net_graph.specs.declared.cell.Cell.{Cell}
 use Rattle.net_graph.specs.declared.cell.Item.TheVariants.{Input}
@@ -13,8 +13,9 @@ use Rattle.net_graph.specs.WellFormed.{IsNetlist}
 use Rattle.net_graph.proofs.BoundLemmas.{IsBound-finishes}
 use Rattle.chain_build.specs.Added.{IsChained}
 use Rattle.chain_build.specs.ChainNet.{IsChainNet}
+use Rattle.chain_build.specs.GroupCosts.{HasCosts}
 use Rattle.chain_build.specs.Output.{AddsOutputs}
-use Rattle.chain_build.proofs.ChainLemmas.{empty, nameless, built-groups, bound3, chain_net}
+use Rattle.chain_build.proofs.ChainLemmas.{empty, nameless, bound1, ungrouped1, built-groups, bound3, chain_net, chain_costs}
 use Rattle.chain_build.proofs.SoFar.{some_width}
 use Rattle.chain_build.proofs.chain.build.Goals as goal
 
@@ -50,4 +51,7 @@ returns c =
     let outs = subst (λ (z : ℤ). AddsOutputs (last_stream W T es).low z c.add_groups.new.net c.add_outputs.new.net c.in_ok-chained.chained.stream c.in_ok-outputs.outputs) c.requires.are_facts.high_is
     (subst (λ (z : ℤ). AddsOutputs z c.args.facts.now.end_hi c.add_groups.new.net c.add_outputs.new.net c.in_ok-chained.chained.stream c.in_ok-outputs.outputs) c.requires.are_facts.low_is added) in
     let formed = (subst (λ (cells : List Cell). IsNetlist cells) c.in-Ok.ensures.ok c.in-Ok.ensures.netlist).well_formed in
-    subst (λ (cells : List Cell). IsChainNet W T es cells c.in_ok-outputs.outputs.out_q c.in_ok-outputs.outputs.out_valid) (sym c.in-Ok.ensures.ok) (chain_net W T es wide first chained outs formed)
+    record {
+      chain = subst (λ (cells : List Cell). IsChainNet W T es cells c.in_ok-outputs.outputs.out_q c.in_ok-outputs.outputs.out_valid) (sym c.in-Ok.ensures.ok) (chain_net W T es wide first chained outs formed);
+      costs = subst (λ (cells : List Cell). HasCosts (groups es) c.in_ok-chained.chained.costs.items cells) (sym c.in-Ok.ensures.ok) (chain_costs W T es wide first chained outs formed c.in_ok-chained.ensures.costs);
+    }

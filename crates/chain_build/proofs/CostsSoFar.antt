@@ -1,0 +1,213 @@
+-- What the groups that were added so far cost.
+use Rattle.std.proofs.Common.{◌≡◌, ℕ, zero, suc, ◌+◌, ◌<◌, ◌≤◌, ◌⊎◌, List, [], ◌∷◌, ◌++◌, length, Some, slice_get, refl, sym, ◌∙◌, ap, subst, arith, inl, inr, append_assoc, append-nil}
+use Rattle.std.proofs.lemmas.Bool.{cases_lt}
+use Rattle.mr_values.specs.Timing.{Group, Fir, DownCic, UpCic, Rounding}
+use Rattle.net_graph.specs.declared.cell.Cell.{Cell}
+use Rattle.net_graph.specs.declared.cell.Stream.{Stream}
+use Rattle.net_graph.specs.declared.name.Name.{Name}
+use Rattle.net_graph.specs.declared.name.NameKind.TheVariants.{Control}
+use Rattle.net_graph.specs.Cells.{NetView, cell_at}
+use Rattle.net_graph.specs.Count.{adders_in, windows_in, tables_in}
+use Rattle.net_graph.specs.Grow.{Extends, Grows}
+use Rattle.net_graph.specs.WellFormed.{IsBound, IsFree}
+use Rattle.net_graph.proofs.CellLemmas.{cell_at-there, same_cell}
+use Rattle.pipeline_balance.specs.Costs.{SameAdders, SameNamed}
+use Rattle.stage_law.specs.Facts.{StageFacts}
+use Rattle.stage_law.specs.Realises.{Realises}
+use Rattle.stage_law.specs.Streams.{Streams}
+use Rattle.stage_law.specs.declared.stage.Cost.{Cost}
+use Rattle.chain_build.specs.declared.groups.Added.{Added}
+use Rattle.chain_build.specs.Added.{HasFacts, IsGroupAdded, AreNameless}
+use Rattle.chain_build.specs.GroupCosts.{IsCostOf, AreCostsOf, AreUngrouped, HasNoTables, AreApart, HasCosts}
+use Rattle.chain_build.proofs.Counting.{AreApart-before, HasSame, HasSame-grows, no_adders, no_windows, no_tables}
+
+-- the tables of the built groups
+tables_of : (g : Group) (facts : StageFacts) → HasFacts g facts → facts.tables ≡ 0
+tables_of (Fir up filter down) facts has = ap (λ (f : StageFacts). f.tables) has
+tables_of (DownCic factor stages delay) facts has = absurd has
+tables_of (UpCic factor stages delay) facts has = absurd has
+tables_of (Rounding shift mode) facts has = ap (λ (f : StageFacts). f.tables) has
+
+after_none : (n : ℕ) → 0 + n ≡ n
+after_none n = omega arith
+
+-- ---- costs in a net that grows
+
+same_cost : (g : Group) (number : ℕ) (old new : List Cell) (cost : Cost) → 1 ≤ number → HasSame number old new → IsCostOf g number old cost → IsCostOf g number new cost
+same_cost g number old new cost some same is = record {
+  facts = is.facts;
+  has_facts = is.has_facts;
+  adders = is.adders;
+  windows = is.windows;
+  tables = is.tables;
+  adders_in = same.adders some ∙ is.adders_in;
+  windows_in = same.windows ∙ is.windows_in;
+  tables_in = same.tables ∙ is.tables_in;
+}
+
+pub same_costs : (number : ℕ) (gs : List Group) (costs : List Cost) (old new : List Cell) → 1 ≤ number → ((k : ℕ) → number ≤ k → k < number + length gs → HasSame k old new) → AreCostsOf number gs costs old → AreCostsOf number gs costs new
+same_costs number [] [] old new some same are = tt
+same_costs number [] (c ∷ costs) old new some same are = are
+same_costs number (g ∷ gs) [] old new some same are = are
+same_costs number (g ∷ gs) (c ∷ costs) old new some same are =
+    (same_cost g number old new c some (same number (omega arith) (omega arith)) are.0,
+    same_costs (number + 1) gs costs old new (omega arith) (λ k low high. same k (omega (arith, low)) (omega (arith, high))) are.1)
+
+costs_with : (number : ℕ) (gs : List Group) (costs : List Cost) (g : Group) (c : Cost) (cells : List Cell) → AreCostsOf number gs costs cells → IsCostOf g (number + length gs) cells c → AreCostsOf number (gs ++ g ∷ []) (costs ++ c ∷ []) cells
+costs_with number [] [] g c cells are is = (subst (λ (n : ℕ). IsCostOf g n cells c) (let e : number + 0 ≡ number = omega arith in e) is, tt)
+costs_with number [] (d ∷ costs) g c cells are is = absurd are
+costs_with number (h ∷ gs) [] g c cells are is = absurd are
+costs_with number (h ∷ gs) (d ∷ costs) g c cells are is =
+    (are.0, costs_with (number + 1) gs costs g c cells are.1 (subst (λ (n : ℕ). IsCostOf g n cells c) (let e : number + suc (length gs) ≡ number + 1 + length gs = omega arith in e) is))
+
+-- ---- the groups so far
+
+pub record CostsSoFar (gs : List Group) (net : List Cell) (rest : List Group) (costs : List Cost) (number : ℕ) : Type 0 where
+  pub front : List Group
+  pub parts : front ++ rest ≡ gs
+  pub count : number ≡ 1 + length front
+  pub bound : IsBound net
+  pub below : (place : ℕ) (cell : Cell) → slice_get net place ≡ Some cell → cell.group < number
+  pub known : AreApart net → AreCostsOf 1 front costs net
+  pub tables : AreApart net → (group : ℕ) → tables_in group net ≡ 0
+
+pub CostsSoFar-start : (gs : List Group) (net : List Cell) → IsBound net → AreUngrouped net → ((name : Name) → IsFree net name) → CostsSoFar gs net gs [] 1
+CostsSoFar-start gs net bound ungrouped nameless = record {
+  front = [];
+  parts = refl;
+  count = omega arith;
+  bound = bound;
+  below = λ place cell at. let e = ungrouped.each cell place at in omega (arith, e);
+  known = λ apart. tt;
+  tables = λ apart group. no_tables net group (λ name data_kind same. nameless name);
+}
+
+-- a net of one node without a name
+pub CostsSoFar-first : (gs rest : List Group) (old net : NetView) (costs : List Cost) → rest ≡ gs → net ≡ record { cells = old.cells; group = 1 } → costs ≡ [] → IsBound old.cells → AreUngrouped old.cells → AreNameless old.cells → CostsSoFar gs net.cells rest costs 1
+CostsSoFar-first gs rest old net costs rest_is net_is costs_are bound ungrouped nameless =
+    subst (λ (r : List Group). CostsSoFar gs net.cells r costs 1) (sym rest_is)
+    (subst (λ (cells : List Cell). CostsSoFar gs cells gs costs 1) (sym (ap (λ (n : NetView). n.cells) net_is))
+    (subst (λ (cs : List Cost). CostsSoFar gs old.cells gs cs 1) (sym costs_are) (CostsSoFar-start gs old.cells bound ungrouped nameless.free)))
+
+module _ {gs : List Group} {net : List Cell} {rest : List Group} {costs : List Cost} {number : ℕ} (so : CostsSoFar gs net rest costs number) {g : Group} {others : List Group} (split : rest ≡ g ∷ others)
+    (free : (name : Name) → (name.kind ≡ Control → ⊥) → number ≤ name.group → IsFree net name) where
+  pub CostsSoFar-next : {new : NetView} (mid : NetView) (streams : Streams) (last : Stream) (added : Added) → mid ≡ record { cells = net; group = number } → IsGroupAdded g streams mid new last added
+      → CostsSoFar gs new.cells others (costs ++ added.cost ∷ []) (number + 1)
+  CostsSoFar-next {new} mid streams last added is adds = record {
+    front = so.front ++ g ∷ [];
+    parts = append_assoc so.front (g ∷ []) others ∙ ap (λ (r : List Group). so.front ++ r) (sym split) ∙ so.parts;
+    count = let e = so.count in let l = longer so.front in omega (arith, e, l);
+    bound = grows.bound bound_mid;
+    below = below_new;
+    known = known_new;
+    tables = λ apart group. tables_new apart group;
+  }
+    where
+      r : Realises adds.facts streams mid new last added.emitted
+      r = adds.realises
+
+      grows : Grows mid new
+      grows = r.grows
+
+      same_cells : mid.cells ≡ net
+      same_cells = ap (λ (n : NetView). n.cells) is
+
+      same_group : mid.group ≡ number
+      same_group = ap (λ (n : NetView). n.group) is
+
+      bound_mid : IsBound mid.cells
+      bound_mid = subst IsBound (sym same_cells) so.bound
+
+      longer : (xs : List Group) → length (xs ++ g ∷ []) ≡ length xs + 1
+      longer [] = refl
+      longer (x ∷ xs) = let l = longer xs in omega (arith, l)
+
+      below_new : (place : ℕ) (cell : Cell) → slice_get new.cells place ≡ Some cell → cell.group < number + 1
+      below_new place cell there = by (cases_lt place (length mid.cells))
+        where
+          by : (place < length mid.cells) ⊎ (length mid.cells ≤ place) → cell.group < number + 1
+          by (inl low) =
+              let was = cell_at-there mid.cells place low in
+              let kept = grows.extends.keeps place (cell_at mid.cells place) was in
+              let one : kept.cell ≡ cell = same_cell kept.cell cell (slice_get new.cells place) kept.there there in
+              let before = so.below place (cell_at mid.cells place) (subst (λ (cells : List Cell). slice_get cells place ≡ Some (cell_at mid.cells place)) same_cells was) in
+              let group_is = ap (λ (c : Cell). c.group) (sym one) ∙ kept.group in
+              omega (arith, before, group_is)
+          by (inr high) = of (grows.added place cell high there).of_group
+            where
+              of : (cell.group ≡ 0) ⊎ (cell.group ≡ mid.group) → cell.group < number + 1
+              of (inl z) = omega (arith, z)
+              of (inr own) = let s = same_group in omega (arith, own, s)
+
+      apart_mid : AreApart new.cells → AreApart mid.cells
+      apart_mid apart = AreApart-before grows.extends apart
+
+      apart_net : AreApart new.cells → AreApart net
+      apart_net apart = subst AreApart same_cells (apart_mid apart)
+
+      -- another group has what it had
+      same_in : AreApart new.cells → (k : ℕ) → (k ≡ number → ⊥) → HasSame k net new.cells
+      same_in apart k other = subst (λ (cells : List Cell). HasSame k cells new.cells) same_cells (HasSame-grows grows r.names bound_mid apart k (λ e. other (e ∙ same_group)))
+
+      free_own : (name : Name) → (name.kind ≡ Control → ⊥) → name.group ≡ number → IsFree net name
+      free_own name data_kind own = free name data_kind (omega (arith, own))
+
+      adders_new : adders_in number new.cells ≡ adds.facts.adders
+      adders_new =
+          subst (λ (k : ℕ). adders_in k new.cells ≡ adders_in k mid.cells + adds.facts.adders) same_group r.adders
+          ∙ ap (λ (n : ℕ). n + adds.facts.adders) (ap (adders_in number) same_cells ∙ no_adders net number so.below) ∙ after_none adds.facts.adders
+
+      windows_new : windows_in number new.cells ≡ adds.facts.windows
+      windows_new =
+          subst (λ (k : ℕ). windows_in k new.cells ≡ windows_in k mid.cells + adds.facts.windows) same_group r.windows
+          ∙ ap (λ (n : ℕ). n + adds.facts.windows) (ap (windows_in number) same_cells ∙ no_windows net number free_own) ∙ after_none adds.facts.windows
+
+      tables_own : tables_in number new.cells ≡ adds.facts.tables
+      tables_own =
+          subst (λ (k : ℕ). tables_in k new.cells ≡ tables_in k mid.cells + adds.facts.tables) same_group r.tables
+          ∙ ap (λ (n : ℕ). n + adds.facts.tables) (ap (tables_in number) same_cells ∙ no_tables net number free_own) ∙ after_none adds.facts.tables
+
+      own_cost : IsCostOf g number new.cells added.cost
+      own_cost = record {
+        facts = adds.facts;
+        has_facts = adds.has_facts;
+        adders = adds.adders;
+        windows = adds.windows;
+        tables = adds.tables;
+        adders_in = adders_new;
+        windows_in = windows_new;
+        tables_in = tables_own;
+      }
+
+      known_new : AreApart new.cells → AreCostsOf 1 (so.front ++ g ∷ []) (costs ++ added.cost ∷ []) new.cells
+      known_new apart =
+          costs_with 1 so.front costs g added.cost new.cells
+          (same_costs 1 so.front costs net new.cells (omega arith) (λ k low high. same_in apart k (λ e. let c = so.count in omega (arith, c, e, high))) (so.known (apart_net apart)))
+          (subst (λ (n : ℕ). IsCostOf g n new.cells added.cost) so.count own_cost)
+
+      tables_new : AreApart new.cells → (group : ℕ) → tables_in group new.cells ≡ 0
+      tables_new apart group = by (cases_lt group number) (cases_lt number group)
+        where
+          other : (group ≡ number → ⊥) → tables_in group new.cells ≡ 0
+          other apart_from = (same_in apart group apart_from).tables ∙ so.tables (apart_net apart) group
+
+          by : (group < number) ⊎ (number ≤ group) → (number < group) ⊎ (group ≤ number) → tables_in group new.cells ≡ 0
+          by (inl less) any = other (λ e. omega (arith, e, less))
+          by (inr most) (inl more) = other (λ e. omega (arith, e, more))
+          by (inr most) (inr least) = let same : group ≡ number = omega (arith, most, least) in ap (λ (k : ℕ). tables_in k new.cells) same ∙ tables_own ∙ tables_of g adds.facts adds.has_facts
+
+-- ---- the end
+
+pub CostsSoFar-end : {gs rest : List Group} {net : List Cell} {costs : List Cost} {number : ℕ} → CostsSoFar gs net rest costs number → rest ≡ [] → AreApart net → HasCosts gs costs net
+CostsSoFar-end {gs} {rest} {net} {costs} so none apart = record {
+  costs_are = subst (λ (hs : List Group). AreCostsOf 1 hs costs net) (sym (append-nil so.front) ∙ ap (λ (r : List Group). so.front ++ r) (sym none) ∙ so.parts) (so.known apart);
+  no_tables = record { none = so.tables apart };
+}
+
+-- ---- the outputs change no cost
+
+pub HasCosts-outputs : {gs : List Group} {costs : List Cost} {old new : List Cell} → SameAdders old new → SameNamed old new → HasCosts gs costs old → HasCosts gs costs new
+HasCosts-outputs {gs} {costs} {old} {new} adders named has = record {
+  costs_are = same_costs 1 gs costs old new (omega arith) (λ k low high. record { adders = adders.each k; windows = named.windows k; tables = named.tables k }) has.costs_are;
+  no_tables = record { none = λ group. named.tables group ∙ has.no_tables.none group };
+}
