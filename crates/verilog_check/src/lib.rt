@@ -15,3 +15,6 @@ mod widths;
 
 pub use laws::{law_of_exclusion, law_of_one_fault};
 pub use whole::check;
+
+#[cfg(test)]
+mod tests;
