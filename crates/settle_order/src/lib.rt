@@ -3,4 +3,4 @@
 
 mod order;
 
-pub use order::{Placed, evaluation_order, place_all};
+pub use order::{Placed, evaluation_order, is_open, place_all, reads_open};

@@ -9,15 +9,16 @@ use mr_values::Memory;
 use std::alloc::Global;
 use verilog_tree::{Expr, Module};
 
-fn is_open(opened: &[bool], name: usize) -> bool
+/// Whether the flag of a name is set, and false past the last flag.
+pub fn is_open(opened: &[bool], name: usize) -> bool
     ensures { result ≡ opened_of opened.now name }
 {
     name < opened.len() && opened[name]
 }
 
-// Whether an expression reads an open name.
+/// Whether an expression reads an open name.
 #[cycle(reads_open)]
-fn reads_open(expr: &Expr, opened: &[bool]) -> bool
+pub fn reads_open(expr: &Expr, opened: &[bool]) -> bool
     ensures { result ≡ reads_open (opened_of opened.now) (tree_view expr.now) }
 {
     match expr {

@@ -1,10 +1,9 @@
 -- The checks before that of loops, from the answers of their parts.
-use Rattle.std.proofs.Common.{◌≡◌, ℕ, ◌&&◌, not, List, [], find, Option, None, Some, refl, sym, ap, ◌∙◌}
+use Rattle.std.proofs.Common.{◌≡◌, ℕ, ◌&&◌, not, List, [], find, Option, None, sym, ap, ◌∙◌}
 use Rattle.std.specs.Prelude.{◌==◌}
 use Rattle.std.specs.List.{list_any}
 use Rattle.std.specs.Option.{option_map}
 use Rattle.verilog_tree.specs.declared.tree.Signal.{Signal}
-use Rattle.verilog_tree.specs.declared.fault.ModuleFault.{ModuleFault}
 use Rattle.verilog_tree.specs.declared.fault.ModuleFault.TheVariants.{NoDriver, Redeclared, ManyDrivers}
 use Rattle.verilog_tree.specs.Tree.{Design}
 use Rattle.verilog_tree.specs.Checks.{Drive, or_else, named, declarations, drives, needs_driver, first_shared, redeclared, many_drivers, no_driver, early_fault}

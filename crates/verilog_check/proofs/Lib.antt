@@ -1,6 +1,8 @@
 pub mod Driving
 pub mod EarlyParts
 pub mod Lists
+pub mod OneAnswer
+pub mod Passing
 pub mod PlaceOrder
 pub mod Repeating
 pub mod TableTurns

@@ -15,7 +15,6 @@ use crate::declared::{Declared, declared_in, text_of};
 use crate::drives::{drives_of, first_shared};
 use crate::repeats::first_redeclared;
 use crate::signal_checks::{first_missing_port, first_over, first_undriven, first_wrong_port};
-use crate::text_order::in_text_order;
 use crate::use_checks::{UseCheck, first_failing};
 use crate::uses::{Use, uses_of};
 use crate::widths::{Told, first_side_over};
@@ -23,8 +22,8 @@ use mr_values::{Memory, Text};
 use std::alloc::Global;
 use verilog_tree::{Module, ModuleFault, Signal};
 
-// A copy of the text of a name.
-fn name_text(alloc: Global, design: &Module, name: usize) -> Result<Text, Memory>
+/// A copy of the text of a name.
+pub(crate) fn name_text(alloc: Global, design: &Module, name: usize) -> Result<Text, Memory>
     ensures { IfOk result (λ text. text ≡ text_of (design_view design.now) name) }
 {
     Text::from_str(alloc, text_of(design, name))
@@ -156,16 +155,20 @@ fn name_fault(
     size_fault(alloc, declared, ordered, uses)
 }
 
-/// The first check before that of loops that a module fails. Fails only for want of memory.
-pub(crate) fn early_check(alloc: Global, design: &Module) -> Result<Option<ModuleFault>, Memory>
+/// The first check before that of loops that a module fails. Takes the declarations in text order. Fails only for want of memory.
+pub(crate) fn early_check(
+    alloc: Global,
+    design: &Module,
+    ordered: &[Signal],
+) -> Result<Option<ModuleFault>, Memory>
+    requires { ordered.now ≡ declarations (design_view design.now) }
     ensures { IfOk result (λ fault. fault ≡ early_fault (design_view design.now)) }
 {
-    let ordered = in_text_order(alloc, &design.signals)?;
-    if let Some(name) = first_redeclared(alloc, &ordered)? {
+    if let Some(name) = first_redeclared(alloc, ordered)? {
         let name = name_text(alloc, design, name)?;
         return Ok(Some(ModuleFault::Redeclared { name }));
     }
     let declared = declared_in(alloc, design)?;
     let uses = uses_of(alloc, design)?;
-    name_fault(alloc, &declared, &ordered, &uses)
+    name_fault(alloc, &declared, ordered, &uses)
 }

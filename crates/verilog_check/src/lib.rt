@@ -4,9 +4,17 @@
 mod declared;
 mod drives;
 mod early;
+mod laws;
 mod repeats;
 mod signal_checks;
 mod text_order;
 mod use_checks;
 mod uses;
+mod whole;
 mod widths;
+
+pub use laws::{law_of_exclusion, law_of_one_fault};
+pub use whole::check;
+
+#[cfg(test)]
+mod tests;

@@ -1,4 +1,4 @@
-use Rattle.std.proofs.Common.{◌≡◌, ℕ, List, [], map, Some, sym, ap, ◌∙◌}
+use Rattle.std.proofs.Common.{ℕ, List, [], map, Some, sym, ap, ◌∙◌}
 use Rattle.verilog_tree.specs.declared.fault.ModuleFault.TheVariants.{NoDriver}
 use Rattle.verilog_tree.specs.Checks.{named, first_shared}
 use Rattle.verilog_tree.specs.View.{design_view}

@@ -1,4 +1,4 @@
-use Rattle.std.proofs.Common.{◌≡◌, List, ◌-◌, ◌^◌, min, ap, sym, ◌∙◌}
+use Rattle.std.proofs.Common.{List, ◌-◌, ◌^◌, min, ap, sym, ◌∙◌}
 use Rattle.verilog_tree.specs.declared.tree.Expr.{Expr}
 use Rattle.verilog_tree.specs.Tree as tree
 use Rattle.verilog_tree.specs.Tree.{Tree}

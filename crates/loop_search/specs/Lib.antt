@@ -1,0 +1,2 @@
+pub mod Dependents
+pub mod Loops

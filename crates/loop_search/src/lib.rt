@@ -1,0 +1,7 @@
+//! The first loop of a module.
+#![tactic(auto)]
+
+mod dependents;
+mod search;
+
+pub use search::first_loop;
