@@ -2,6 +2,8 @@
 #![tactic(auto)]
 
 mod chain;
+mod laws;
 mod small;
 
 pub use chain::chain_text;
+pub use laws::law_of_uncut_output;
