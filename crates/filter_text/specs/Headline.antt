@@ -1,5 +1,5 @@
 -- What the text of a plan has to show: each value of the chain at its tick, and nothing at any other tick.
-use Rattle.std.specs.Prelude.{◌≡◌, ℕ, zero, suc, ◌+◌, ◌-◌, ◌*◌, ◌≤◌, true, List, [], ◌∷◌, ◌++◌, length, map, drop, ℤ, pos}
+use Rattle.std.specs.Prelude.{◌≡◌, ℕ, zero, suc, ◌+◌, ◌-◌, ◌*◌, true, List, [], ◌∷◌, ◌++◌, length, map, drop, ℤ, pos}
 use Rattle.mr_values.specs.Width.{signed, IsLeastWidth}
 use Rattle.mr_values.specs.Timing.{ceil_div, last_stream}
 use Rattle.mr_values.specs.Sequence.{phase}

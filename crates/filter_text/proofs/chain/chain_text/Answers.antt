@@ -1,13 +1,12 @@
-use Rattle.std.proofs.Common.{◌≡◌, ℕ, List, Result, Ok, Err, IfOk, subst, sym, ◌∙◌}
+use Rattle.std.proofs.Common.{ℕ, Result, Ok, Err, IfOk, subst, sym, ◌∙◌}
 use Rattle.mr_values.specs.Value.{size}
 use Rattle.mr_values.specs.Width.{IsLeastWidth}
-use Rattle.mr_values.specs.Timing.{last_stream, latency}
+use Rattle.mr_values.specs.Timing.{last_stream}
 use Rattle.verilog_tree.specs.Tree.{Design}
 use Rattle.verilog_text.specs.Grammar.{limits}
 use Rattle.verilog_text.specs.Shortest.{IsWritable}
 use Rattle.verilog_text.specs.Order.{IsInOrder, IsSameButPlaces}
 use Rattle.verilog_text.proofs.OneReading.{one_design}
-use Rattle.net_module.specs.Written.{written_module}
 use Rattle.net_module.proofs.Outputs.{shows_as}
 use Rattle.net_text.proofs.Writable.{has_text, in_order}
 use Rattle.filter_text.specs.Headline.{ShowsChain}
