@@ -27,10 +27,8 @@ use Rattle.net_module.proofs.Cycles.{wide_of, width_of, sign_of}
 use Rattle.net_module.proofs.Outputs.{shows_as, signed_value-true}
 use Rattle.chain_build.specs.Built.{ArePlainGroups}
 use Rattle.chain_build.specs.ChainNet.{IsChainNet, ShowsValues}
-use Rattle.uncut_module.specs.Uncut.{HasFitConstants}
 use Rattle.uncut_module.proofs.Along.{steps_uncut}
-use Rattle.filter_text.specs.Headline.{samples_in, IsRunFrom}
-use Rattle.filter_text.specs.UncutOutput.{output_register, KeepsOutput}
+use Rattle.filter_text.specs.Headline.{samples_in, IsRunFrom, output_register, KeepsOutput}
 use Rattle.filter_text.proofs.ChainPlaces.{output_is, input_width, chain_writable}
 use Rattle.filter_text.proofs.ChainShows.{has_samples, in_span, of_written}
 use Rattle.filter_text.proofs.OutputNumber.{output_number}
@@ -82,15 +80,15 @@ module _ {width ticks : ℕ} {elements : List Element} {cells : List Cell} {out_
         ∙ IsRun-keeps cut_all IsCut-all cells (samples_of (width_in cells) after) run.0 place cell run.1 there (wide_of cells net.netlist can place cell there) t
         ∙ worth_is cut_all net.values after runs.fit run.0 run.1 n t is
 
-    pub keeps_output : ArePlainGroups (groups elements) → HasFitConstants cells → KeepsOutput elements width ticks (latency width ticks elements) (last_stream width ticks elements).period d
-    keeps_output plain fit = record {
+    pub keeps_output : ArePlainGroups (groups elements) → KeepsOutput elements width ticks (latency width ticks elements) (last_stream width ticks elements).period d
+    keeps_output plain = record {
       bits = bits_hold;
       whole = λ content before after reset settled runs begins uncut numbers n j now at is.
           let run = some_run cut_control IsCut-control cells (samples_of (width_in cells) after) net.netlist in
           let written_runs = written content before after reset settled runs in
           let whole_run = same_uncut_run d (written_module cells) same begins (drop (length before) settled) uncut numbers in
           ap now output_same
-          ∙ (steps_uncut cells net.netlist net.closed fit can).registers content before after reset settled uncut run.0
+          ∙ (steps_uncut cells net.netlist net.closed can).registers content before after reset settled uncut run.0
           (record { patterns = written_runs; begins = begins; numbers = whole_run; net = run.1 })
           j now at out_q.place net.register.cell net.register.there registered
           ∙ worth_is cut_control (net.whole plain) after runs.fit run.0 run.1 n (ticks_in (take j after)) is;
