@@ -1,5 +1,5 @@
 -- The limits of an accepted plan's numbers.
-use Rattle.std.proofs.Common.{ℕ, ◌≤◌, arith}
+use Rattle.std.proofs.Common.{◌≤◌, arith}
 use Rattle.mr_values.specs.declared.plan.Plan.{Plan}
 use Rattle.mr_values.specs.Value.{size}
 use Rattle.plan_check.specs.Accepted.{IsAccepted}

@@ -1,5 +1,5 @@
 -- Where the input, the output and the shown bit stand in the net of a plan, and that it can be written.
-use Rattle.std.proofs.Common.{◌≡◌, ℕ, ◌≤◌, true, List, length, Some, slice_get, refl, sym, ◌∙◌, ap, subst, arith}
+use Rattle.std.proofs.Common.{◌≡◌, ℕ, ◌≤◌, List, Some, slice_get, sym, ◌∙◌, ap, subst}
 use Rattle.mr_values.specs.declared.plan.Element.{Element}
 use Rattle.net_graph.specs.declared.cell.Cell.{Cell}
 use Rattle.net_graph.specs.declared.cell.Node.{Node}

@@ -1,11 +1,11 @@
 -- The module of a plan's net shows the chain.
-use Rattle.std.proofs.Common.{◌≡◌, ℕ, Bool, cond, zero, suc, ◌+◌, ◌-◌, ◌*◌, ◌<◌, ◌≤◌, ◌^◌, true, false, List, [], ◌∷◌, ◌++◌, length, map, get_or, refl, sym, ◌∙◌, ap, subst, arith, ℤ, pos, negsuc, neg_ℤ, ◌-ℤ◌, ltb}
-use Rattle.std.specs.Prelude.{slice_index, slice_index_or}
+use Rattle.std.proofs.Common.{◌≡◌, ℕ, Bool, cond, zero, suc, ◌+◌, ◌-◌, ◌*◌, ◌<◌, ◌≤◌, ◌^◌, true, false, List, [], ◌∷◌, map, get_or, refl, sym, ◌∙◌, ap, subst, arith, ℤ, pos, negsuc, ◌-ℤ◌, ltb}
+use Rattle.std.specs.Prelude.{slice_index}
 use Rattle.std.proofs.lemmas.Int.{ints}
 use Rattle.std.proofs.lemmas.Nat.{pow_pos}
 use Rattle.mr_values.specs.declared.plan.Element.{Element}
-use Rattle.mr_values.specs.Width.{FitsWidth, signed, set_bit}
-use Rattle.mr_values.specs.Sequence.{Sequence, samples, phase}
+use Rattle.mr_values.specs.Width.{FitsWidth, signed}
+use Rattle.mr_values.specs.Sequence.{samples, phase}
 use Rattle.mr_values.specs.Timing.{input, last_stream, latency}
 use Rattle.mr_values.specs.Value.{val}
 use Rattle.mr_values.proofs.WidthLemmas.{signed_is}
@@ -18,11 +18,10 @@ use Rattle.net_graph.proofs.RunLemmas.{some_run}
 use Rattle.plan_laws.specs.Laws.{IsBetween}
 use Rattle.span_ranges.specs.Span.{IsInSpan}
 use Rattle.verilog_tree.specs.Meaning.{Values}
-use Rattle.verilog_tree.specs.Names.{shapes_of}
-use Rattle.verilog_tree.specs.Shown.{Cycle, EachFits, ports_of, events_of}
+use Rattle.verilog_tree.specs.Shown.{Cycle, EachFits}
 use Rattle.verilog_tree.specs.Tree.{Design}
 use Rattle.verilog_text.specs.Order.{IsSameButPlaces}
-use Rattle.net_module.specs.Written.{written_module, input_place, output_place, valid_place}
+use Rattle.net_module.specs.Written.{written_module, output_place, valid_place}
 use Rattle.net_module.specs.Steps.{tick_data, ticks_in, samples_of, width_in, RunsAfterReset, ShowsAs, outputs_from as shown_from}
 use Rattle.chain_build.specs.ChainNet.{HasSamples, IsChainNet}
 use Rattle.module_laws.proofs.Places.{same_shapes, same_circuits, same_ports}
@@ -79,14 +78,14 @@ between-none width ticks = let some = pow_pos (width - 1) in record { least = om
 
 module _ {width ticks : ℕ} {elements : List Element} {cells : List Cell} {out_q out_valid : Node} (wide : 1 ≤ width) (some : 1 ≤ ticks) (positive : 1 ≤ (last_stream width ticks elements).period) (net : IsChainNet width ticks elements cells out_q out_valid)
     (shows : ShowsAs cells) where
-  has_samples : (after : List Cycle) → HasSamples ticks (samples_of width after) (samples (samples_in width ticks after))
+  pub has_samples : (after : List Cycle) → HasSamples ticks (samples_of width after) (samples (samples_in width ticks after))
   has_samples after k =
       let none_more : 0 + k * ticks ≡ k * ticks = omega arith in
       sym (phase-item ticks 0 (map (signed width) (tick_data after)) k some
       ∙ ap (λ (n : ℕ). get_or (map (signed width) (tick_data after)) n (pos 0)) none_more
       ∙ read_samples width (tick_data after) (k * ticks))
 
-  in_span : (after : List Cycle) → EachFits width after → IsInSpan (input width ticks).low (input width ticks).high (samples (samples_in width ticks after))
+  pub in_span : (after : List Cycle) → EachFits width after → IsInSpan (input width ticks).low (input width ticks).high (samples (samples_in width ticks after))
   in_span after fit = record { causal = λ n. refl; within = by }
     where
       by : (k : ℤ) → IsBetween (input width ticks).low (input width ticks).high (samples (samples_in width ticks after) k)
@@ -105,7 +104,7 @@ module _ {width ticks : ℕ} {elements : List Element} {cells : List Cell} {out_
 
   -- a module that is the written one but for places shows the chain
   module _ (d : Design) (same : IsSameButPlaces d (written_module cells)) where
-    of_written : (content : Values) (before after : List Cycle) (reset : Cycle) (settled : List Values) → IsRunFrom d width content before after reset settled → RunsAfterReset cells content before after reset settled
+    pub of_written : (content : Values) (before after : List Cycle) (reset : Cycle) (settled : List Values) → IsRunFrom d width content before after reset settled → RunsAfterReset cells content before after reset settled
     of_written content before after reset settled r = record {
       run = rw (same_circuits d (written_module cells) same, same_ports d (written_module cells) same) at r.run;
       is_reset = r.is_reset;

@@ -4,3 +4,6 @@ pub mod ChainLimits
 pub mod ChainOutputs
 pub mod ChainPlaces
 pub mod ChainShows
+pub mod OutputNumber
+pub mod UncutPlaces
+pub mod UncutOutput

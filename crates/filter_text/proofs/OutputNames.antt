@@ -1,6 +1,5 @@
 -- The names of the output and of the shown bit.
-use Rattle.std.proofs.Common.{◌≡◌, ℕ, true, false, List, length, Option, Some, None, slice_get, refl, sym, ◌∙◌, ap, subst}
-use Rattle.net_graph.specs.declared.cell.Node.{Node}
+use Rattle.std.proofs.Common.{◌≡◌, ℕ, true, Option, Some, None, refl, ap}
 use Rattle.net_graph.specs.declared.cell.Item.{Item}
 use Rattle.net_graph.specs.declared.cell.Item.TheVariants.{Input, Constant, Add, Sub, Shl, Shr, Mux, Equal, Bits, Register}
 use Rattle.net_graph.specs.declared.name.Name.{Name}

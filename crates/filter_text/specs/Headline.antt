@@ -1,18 +1,20 @@
 -- What the text of a plan has to show: each value of the chain at its tick, and nothing at any other tick.
-use Rattle.std.specs.Prelude.{◌≡◌, ℕ, zero, suc, ◌+◌, ◌-◌, ◌*◌, ◌≤◌, true, List, [], ◌∷◌, ◌++◌, length, map, drop, ℤ, pos}
+use Rattle.std.specs.Prelude.{◌≡◌, ℕ, zero, suc, ◌+◌, ◌-◌, ◌*◌, true, List, [], ◌∷◌, ◌++◌, length, map, take, drop, codes, Some, slice_get, ℤ, pos}
 use Rattle.mr_values.specs.Width.{signed, IsLeastWidth}
-use Rattle.mr_values.specs.Timing.{ceil_div, last_stream}
+use Rattle.mr_values.specs.Timing.{ceil_div, groups, last_stream}
 use Rattle.mr_values.specs.Sequence.{phase}
 use Rattle.mr_values.specs.Value.{val}
 use Rattle.mr_values.specs.declared.plan.Element.{Element}
 use Rattle.verilog_tree.specs.Checks.{Passes}
 use Rattle.verilog_tree.specs.Meaning.{Values}
 use Rattle.module_laws.specs.Running.{HasRuns}
-use Rattle.verilog_tree.specs.Names.{shapes_of}
+use Rattle.verilog_tree.specs.Names.{shapes_of, number_of}
 use Rattle.verilog_tree.specs.Shown.{Cycle, Event, RunsOver, EachFits, ports_of, events_of}
 use Rattle.verilog_tree.specs.Tree.{Design}
+use Rattle.verilog_tree.specs.Uncut.{Numbers, IsUncutRun, number_at}
 use Rattle.verilog_text.specs.Reading.{Reads}
 use Rattle.net_module.specs.Steps.{HasNoReset, tick_data, ticks_in, pair_of}
+use Rattle.chain_build.specs.Built.{ArePlainGroups}
 
 -- output n stands at the tick latency + n * period: so many outputs from one on, each with its tick
 abbrev pub outputs_from : ℕ → ℕ → (ℕ → ℤ) → ℕ → ℕ → List (ℕ × ℤ)
@@ -50,8 +52,24 @@ pub record ShowsChain (elements : List Element) (width ticks latency period : �
   pub shows : (content : Values) (before after : List Cycle) (reset : Cycle) (settled : List Values) → IsRunFrom d width content before after reset settled
       → map pair_of (events_after d before after settled) ≡ outputs_within latency period (λ n. val elements (samples_in width ticks after) (pos n)) (ticks_in after)
 
+-- the number of the name of the output register
+abbrev pub output_register : Design → ℕ
+output_register d = number_of d (codes "out_q")
+
+-- For every content of the registers and every list of cycles with a reset: in each cycle after the last reset cycle that has
+-- latency + n * period ticks before it, the output register has value n of the chain over the samples since then, as the number that its
+-- bits stand for, and as its whole number in every uncut run that begins at that reset cycle.
+pub record KeepsOutput (elements : List Element) (width ticks latency period : ℕ) (d : Design) : Type 0 where
+  pub bits : (content : Values) (before after : List Cycle) (reset : Cycle) (settled : List Values) → IsRunFrom d width content before after reset settled
+      → (n j : ℕ) (now : Values) → slice_get settled (length before + 1 + j) ≡ Some now → ticks_in (take j after) ≡ latency + n * period
+      → number_at d now (output_register d) ≡ val elements (samples_in width ticks after) (pos n)
+  pub whole : (content : Values) (before after : List Cycle) (reset : Cycle) (settled : List Values) → IsRunFrom d width content before after reset settled
+      → (begins : Numbers) (uncut : List Numbers) → IsUncutRun d begins (drop (length before) settled) uncut
+      → (n j : ℕ) (now : Numbers) → slice_get uncut (suc j) ≡ Some now → ticks_in (take j after) ≡ latency + n * period
+      → now (output_register d) ≡ val elements (samples_in width ticks after) (pos n)
+
 -- the bytes read as one module, it passes every check, from any content it runs over any cycles, its output has the least width for the
--- span of the last stream, and it shows the chain
+-- span of the last stream, and it shows the chain; where no group rounds, its output register is never cut
 pub record IsTextOf (elements : List Element) (width ticks latency period : ℕ) (bytes : List ℕ) : Type 0 where
   pub design : Design
   pub reads : Reads bytes design
@@ -60,3 +78,4 @@ pub record IsTextOf (elements : List Element) (width ticks latency period : ℕ)
   pub runs : HasRuns design
   pub output : IsLeastWidth (last_stream width ticks elements).low (last_stream width ticks elements).high ((shapes_of design).width (ports_of design).out_data)
   pub shows : ShowsChain elements width ticks latency period design
+  pub uncut : ArePlainGroups (groups elements) → KeepsOutput elements width ticks latency period design

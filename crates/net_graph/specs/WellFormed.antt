@@ -1,5 +1,6 @@
 -- Which lists of nodes are nets: operands are earlier nodes, but for a register's next, and no two nodes have one name.
 use Rattle.std.specs.Prelude.{◌≡◌, ℕ, ◌+◌, ◌-◌, ◌<◌, ◌≤◌, List, length, Option, Some, None, slice_get, IsSome, IsNone}
+use Rattle.mr_values.specs.Width.{FitsWidth}
 use Rattle.net_graph.specs.declared.cell.Cell.{Cell}
 use Rattle.net_graph.specs.declared.cell.Node.{Node}
 use Rattle.net_graph.specs.declared.cell.Item.{Item}
@@ -13,12 +14,12 @@ use Rattle.net_graph.specs.Name.{IsRegisterName, IsWireName}
 abbrev pub IsWidth : ℕ → Type 0
 IsWidth width = (1 ≤ width) × (width ≤ 128)
 
--- The operands of an item at this place are earlier nodes; a register may read any node of the list. Shifts are below 128, an
--- equality is one bit, and a selection has as many bits as it selects.
+-- The operands of an item at this place are earlier nodes; a register may read any node of the list. A constant fits its width, shifts
+-- are below 128, an equality is one bit, and a selection has as many bits as it selects.
 abbrev pub OperandsBelow : ℕ → ℕ → ℕ → Option Item → Type 0
 OperandsBelow place count width None = Unit {0}
 OperandsBelow place count width (Some Input) = Unit {0}
-OperandsBelow place count width (Some (Constant v)) = Unit {0}
+OperandsBelow place count width (Some (Constant v)) = FitsWidth width v
 OperandsBelow place count width (Some (Add a b)) = (a.place < place) × (b.place < place)
 OperandsBelow place count width (Some (Sub a b)) = (a.place < place) × (b.place < place)
 OperandsBelow place count width (Some (Shl a by)) = (a.place < place) × (by < 128)

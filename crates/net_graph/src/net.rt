@@ -1,6 +1,7 @@
 // The net while it grows.
 
 ghost use Rattle.std.specs.Prelude.{◌≡◌, ℕ, ◌+◌, ◌-◌, ◌<◌, ◌≤◌, [], ◌∷◌, ◌++◌, length, Some, None, IfOk, IfErr, OnErr, true, false};
+ghost use Rattle.mr_values.specs.Width.{wrap};
 ghost use Rattle.net_graph.specs.Cells.{NetView, cell_at};
 ghost use Rattle.net_graph.specs.Name.{IsRegisterName, IsWireName};
 ghost use Rattle.net_graph.specs.WellFormed.{IsWidth, IsNode, IsFree, IsLeastFree, IsFirstUnbound, IsNetlist};
@@ -10,7 +11,7 @@ ghost use Rattle.net_graph.specs.Grow.{Adds, AddsRegister, IsUnbound, IsBoundTo,
 use crate::cell::{Cell, Item, Node};
 use crate::name::{Name, NameKind};
 use crate::netlist::{NetFault, Netlist};
-use mr_values::Memory;
+use mr_values::{Memory, wrap};
 use std::alloc::Global;
 use std::marker::Model;
 
@@ -100,10 +101,11 @@ impl Net {
     /// A constant, cut to its width.
     pub fn constant(&mut self, value: i128, width: u8) -> Result<Node, Memory>
         requires { IsWidth width }
-        ensures ok { IfOk result (λ node. Adds self.old self.new node width (Item.Constant value)) }
+        ensures ok { IfOk result (λ node. Adds self.old self.new node width (Item.Constant (wrap width value))) }
         ensures err { OnErr result (self.new ≡ self.old) }
     {
-        self.push(None, width, Some(Item::Constant(value)))
+        let held = wrap(value, width);
+        self.push(None, width, Some(Item::Constant(held)))
     }
 
     /// The sum of two nodes, cut to its width.

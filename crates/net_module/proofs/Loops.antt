@@ -145,7 +145,7 @@ driven_all numbers cells n old_assigns new_assigns old_blocks new_blocks is to =
 pub operands_near : (item : Option Item) (place count width n : ℕ) → OperandsBelow place count width item → place ≤ n → count ≡ n → OperandsBelow n n width item
 operands_near None place count width n o le is = tt
 operands_near (Some Input) place count width n o le is = tt
-operands_near (Some (Constant v)) place count width n o le is = tt
+operands_near (Some (Constant v)) place count width n o le is = o
 operands_near (Some (Add a b)) place count width n o le is = (omega (arith, o.0), omega (arith, o.1))
 operands_near (Some (Sub a b)) place count width n o le is = (omega (arith, o.0), omega (arith, o.1))
 operands_near (Some (Shl a by)) place count width n o le is = (omega (arith, o.0), o.1)

@@ -37,6 +37,10 @@ wrap-set_bit = wrap_fits 1 (negsuc 0) (omega arith) (fits_in 1 (negsuc 0) (omega
 pub as_control : (cut : Cut) → IsCut cut → (control : Bool) (width : ℕ) (z : ℤ) → control ≡ true → cut control width z ≡ wrap width z
 as_control cut law control width z e = ap (λ (c : Bool). cut c width z) e ∙ law.controls width z
 
+-- a control constant, cut to its width, stays as it is
+pub constant_control : (cut : Cut) → IsCut cut → (control : Bool) (width : ℕ) (z : ℤ) → 1 ≤ width → control ≡ true → cut control width (wrap width z) ≡ wrap width z
+constant_control cut law control width z wide e = as_control cut law control width (wrap width z) e ∙ wrap_twice width z wide
+
 -- the values of the seven nodes at every tick
 record Counts (v : Values) (w first : ℕ) (restarts_at : ℤ) (count last restart one done more next : Node) : Type 0 where
   starts : v 0 count.place ≡ pos 0
@@ -179,7 +183,7 @@ there_bound {old} {new} {register} {next} {cell} place b other there = subst (λ
 
 -- the circuit, node by node
 pub IsCounter-circuit : {n0 n1 n2 n3 n4 n5 n6 n7 n8 : NetView} {w period first : ℕ} {count last restart one done more next : Node} → 1 ≤ w → 1 ≤ period → first < 2 ^ w → period ≤ 2 ^ w → n0.group ≡ 0
-    → AddsNext n0 n1 0 Control w count → Adds n1 n2 last w (Constant (pos first)) → Adds n2 n3 restart w (Constant (pos (first + 1) -ℤ pos period)) → Adds n3 n4 one w (Constant (pos 1)) → Adds n4 n5 done 1 (Equal count last)
+    → AddsNext n0 n1 0 Control w count → Adds n1 n2 last w (Constant (wrap w (pos first))) → Adds n2 n3 restart w (Constant (wrap w (pos (first + 1) -ℤ pos period))) → Adds n3 n4 one w (Constant (wrap w (pos 1))) → Adds n4 n5 done 1 (Equal count last)
     → Adds n5 n6 more w (Add count one) → Adds n6 n7 next w (Mux done restart more) → IsBoundTo n7 n8 count next → IsCounter n0 n8 (IsTickOf period first) done
 IsCounter-circuit {n0} {n1} {n2} {n3} {n4} {n5} {n6} {n7} {n8} {w} {period} {first} {count} {last} {restart} {one} {done} {more} {next} wide positive room_first room_period g0 a1 a2 a3 a4 a5 a6 a7 b =
     let own : Cell = record { group = n0.group; name = Some (name_of 0 Control a1.number); width = w; item = None } in
@@ -244,9 +248,9 @@ IsCounter-circuit {n0} {n1} {n2} {n3} {n4} {n5} {n6} {n7} {n8} {w} {period} {fir
         record {
           starts = register.0;
           steps = λ t. register.1 t ∙ law.controls w _;
-          lasts = λ t. r2.each last.place _ (cell_of_added a2) t ∙ as_control cut law _ w _ (nameless_zero n1.group g1);
-          restarts = λ t. r3.each restart.place _ (cell_of_added a3) t ∙ as_control cut law _ w _ (nameless_zero n2.group g2);
-          ones = λ t. r4.each one.place _ (cell_of_added a4) t ∙ as_control cut law _ w _ (nameless_zero n3.group g3);
+          lasts = λ t. r2.each last.place _ (cell_of_added a2) t ∙ constant_control cut law _ w _ wide (nameless_zero n1.group g1);
+          restarts = λ t. r3.each restart.place _ (cell_of_added a3) t ∙ constant_control cut law _ w _ wide (nameless_zero n2.group g2);
+          ones = λ t. r4.each one.place _ (cell_of_added a4) t ∙ constant_control cut law _ w _ wide (nameless_zero n3.group g3);
           dones = λ t. r5.each done.place _ (cell_of_added a5) t ∙ as_control cut law _ 1 _ (nameless_zero n4.group g4);
           mores = λ t. r6.each more.place _ (cell_of_added a6) t ∙ as_control cut law _ w _ (nameless_zero n5.group g5);
           nexts = λ t. r7.each next.place _ (cell_of_added a7) t ∙ as_control cut law _ w _ (nameless_zero n6.group g6);

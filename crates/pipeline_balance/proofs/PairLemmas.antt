@@ -1,9 +1,10 @@
 -- A register over one leaf or two.
-use Rattle.mr_values.proofs.WidthLemmas.{FitsWidth-zero}
+use Rattle.mr_values.proofs.WidthLemmas.{wrap_zero, FitsWidth-zero}
 use Rattle.std.proofs.Common.{◌≡◌, ℕ, suc, ◌+◌, ◌^◌, ◌<◌, ◌≤◌, List, [], ◌∷◌, length, refl, sym, ◌∙◌, ap, arith, Some, None, subst, ℤ, pos, neg_ℤ, ◌+ℤ◌, ◌-ℤ◌, ◌*ℤ◌, Bool, true, false, cond, inl}
 use mathlib.Core.Bool.{beq}
 use Rattle.std.proofs.lemmas.Int.{ints}
 use Rattle.std.proofs.lemmas.Option.{slice_get_within}
+use Rattle.mr_values.specs.Width.{wrap}
 use Rattle.net_graph.proofs.CellLemmas.{cell_at-there, cell_at-is}
 use Rattle.net_graph.proofs.GroupLemmas.{nameless_data}
 use Rattle.net_graph.proofs.NetLemmas.{Extends-adds, IsRun-keeps, cell_of_added}
@@ -244,7 +245,7 @@ AddsSum-one {old} {mid} {new} {held} {register} a width l g =
 
 -- a negative term taken from 0
 pub AddsNode-negated : {old mid zeroed new : NetView} {held zero root : Node} (term : Leaf) (width wide : ℕ) → 1 ≤ old.group → term.negative ≡ true → IsLeaf mid.cells term → width ≡ (cell_at mid.cells term.node.place).width → wide ≡ width + term.place + 1
-    → AddsNode old mid 0 held (λ cut v t. v t term.node.place *ℤ pos (2 ^ term.place)) → Adds mid zeroed zero 1 (Constant (pos 0)) → Adds zeroed new root wide (Sub zero held)
+    → AddsNode old mid 0 held (λ cut v t. v t term.node.place *ℤ pos (2 ^ term.place)) → Adds mid zeroed zero 1 (Constant (wrap 1 (pos 0))) → Adds zeroed new root wide (Sub zero held)
     → AddsNode old new 1 root (λ cut v t. leaf_value v t term)
 AddsNode-negated {old} {mid} {zeroed} {new} {held} {zero} {root} term width wide data_group negative leaf has is h z a =
     let mid_group : 1 ≤ mid.group = subst (λ (g : ℕ). 1 ≤ g) (sym h.grows.group) data_group in
@@ -270,7 +271,7 @@ AddsNode-negated {old} {mid} {zeroed} {new} {held} {zero} {root} term width wide
             let wide_is : own.width + term.place + 1 ≡ wide = omega arith in
             let fits : cut false wide (pos 0 -ℤ value) ≡ pos 0 -ℤ value = subst (λ (w : ℕ). cut false w (pos 0 -ℤ value) ≡ pos 0 -ℤ value) wide_is negated in
             let nothing : v t zero.place ≡ pos 0 =
-            r_zero.each zero.place _ (cell_of_added z) t ∙ ap (λ (c : Bool). cut c 1 (pos 0)) (nameless_data mid.group true mid_group) ∙ law.fitting false 1 (pos 0) (omega arith) (FitsWidth-zero 1) in
+            r_zero.each zero.place _ (cell_of_added z) t ∙ ap (λ (c : Bool). cut c 1 (wrap 1 (pos 0))) (nameless_data mid.group true mid_group) ∙ ap (cut false 1) (wrap_zero 1 (omega arith)) ∙ law.fitting false 1 (pos 0) (omega arith) (FitsWidth-zero 1) in
             let there : v t held.place ≡ value = h.computes.holds cut law x v r_mid t in
             r.each root.place _ (cell_of_added a) t ∙ ap (λ (c : Bool). cut c wide (v t zero.place -ℤ v t held.place)) (nameless_data zeroed.group true zero_group)
             ∙ ap (λ (b : ℤ). cut false wide (b -ℤ v t held.place)) nothing ∙ ap (λ (b : ℤ). cut false wide (pos 0 -ℤ b)) there ∙ fits

@@ -29,7 +29,7 @@ use Rattle.pipeline_balance.proofs.WrapLemmas.{wrap-+, wrap_twice, wrap_apart, w
 use Rattle.pipeline_balance.specs.Costs.{SameAdders, SameNamed}
 use Rattle.pipeline_balance.proofs.CostLemmas.{SameAdders-trans, SameAdders-register, SameAdders-plain, SameAdders-control, SameAdders-bind, SameNamed-trans, SameNamed-adds, SameNamed-register, SameNamed-bind}
 use Rattle.pipeline_balance.proofs.NumberedLemmas.{free_register, free_adds, free_bind, LeavesFree-trans}
-use Rattle.pipeline_balance.proofs.CounterLemmas.{as_control, control_added, control_then, wrap-set_bit, added_anyhow, there_then}
+use Rattle.pipeline_balance.proofs.CounterLemmas.{as_control, constant_control, control_added, control_then, wrap-set_bit, added_anyhow, there_then}
 use Rattle.pipeline_balance.proofs.TakenLemmas.{HasTaken-at, taken, off_tick, tick_is, IsBitOf-later}
 
 -- the number after n modulo count
@@ -123,7 +123,7 @@ module _ (v : Values) (w period first count : ℕ) (on index last none one done 
 -- ---- the index in a net
 
 pub IsIndex-circuit : {n0 n1 n2 n3 n4 n5 n6 n7 n8 n9 : NetView} {w count : ℕ} {on index last none one done more next held : Node} (period first : ℕ) → 1 ≤ w → 1 ≤ period → 1 ≤ count → count ≤ 2 ^ w → n0.group ≡ 0 → IsOfControl n0.cells on.place → IsBitOf n0.cells (IsTickOf period first) on
-    → AddsNext n0 n1 0 Control w index → Adds n1 n2 last w (Constant (pos (count - 1))) → Adds n2 n3 none w (Constant (pos 0)) → Adds n3 n4 one w (Constant (pos 1)) → Adds n4 n5 done 1 (Equal index last)
+    → AddsNext n0 n1 0 Control w index → Adds n1 n2 last w (Constant (wrap w (pos (count - 1)))) → Adds n2 n3 none w (Constant (wrap w (pos 0))) → Adds n3 n4 one w (Constant (wrap w (pos 1))) → Adds n4 n5 done 1 (Equal index last)
     → Adds n5 n6 more w (Add index one) → Adds n6 n7 next w (Mux done none more) → Adds n7 n8 held w (Mux on next index) → IsBoundTo n8 n9 index held → IsIndex n0 n9 period first count w index
 IsIndex-circuit {n0} {n1} {n2} {n3} {n4} {n5} {n6} {n7} {n8} {n9} {w} {count} {on} {index} {last} {none} {one} {done} {more} {next} {held} period first wide positive some room g0 on0 gate a1 a2 a3 a4 a5 a6 a7 a8 b =
     let own : Cell = record { group = n0.group; name = Some (name_of 0 Control a1.number); width = w; item = None } in
@@ -192,9 +192,9 @@ IsIndex-circuit {n0} {n1} {n2} {n3} {n4} {n5} {n6} {n7} {n8} {n9} {w} {count} {o
         record {
           starts = register.0;
           steps = λ t. register.1 t ∙ law.controls w _;
-          lasts = λ t. r2.each last.place _ (cell_of_added a2) t ∙ as_control cut law _ w _ (nameless_zero n1.group g1);
-          nones = λ t. r3.each none.place _ (cell_of_added a3) t ∙ as_control cut law _ w _ (nameless_zero n2.group g2);
-          ones = λ t. r4.each one.place _ (cell_of_added a4) t ∙ as_control cut law _ w _ (nameless_zero n3.group g3);
+          lasts = λ t. r2.each last.place _ (cell_of_added a2) t ∙ constant_control cut law _ w _ wide (nameless_zero n1.group g1);
+          nones = λ t. r3.each none.place _ (cell_of_added a3) t ∙ constant_control cut law _ w _ wide (nameless_zero n2.group g2);
+          ones = λ t. r4.each one.place _ (cell_of_added a4) t ∙ constant_control cut law _ w _ wide (nameless_zero n3.group g3);
           dones = λ t. r5.each done.place _ (cell_of_added a5) t ∙ as_control cut law _ 1 _ (nameless_zero n4.group g4);
           mores = λ t. r6.each more.place _ (cell_of_added a6) t ∙ as_control cut law _ w _ (nameless_zero n5.group g5);
           nexts = λ t. r7.each next.place _ (cell_of_added a7) t ∙ as_control cut law _ w _ (nameless_zero n6.group g6);
@@ -252,7 +252,7 @@ module _ (v : Values) (w period first count phase : ℕ) (on index number same c
   ]
 
 pub IsPhase-circuit : {n0 n1 n2 n3 n4 : NetView} {w phase : ℕ} {on index number same clear bit : Node} (period first count : ℕ) → 1 ≤ w → 1 ≤ period → phase < count → count ≤ 2 ^ w → n0.group ≡ 0 → IsOfControl n0.cells on.place → IsOfControl n0.cells index.place → IsBitOf n0.cells (IsTickOf period first) on → IsIndexOf n0.cells period first count w index
-    → Adds n0 n1 number w (Constant (pos phase)) → Adds n1 n2 same 1 (Equal index number) → Adds n2 n3 clear 1 (Constant (pos 0)) → Adds n3 n4 bit 1 (Mux on same clear) → IsCounter n0 n4 (IsTickOfPhase period first count phase) bit
+    → Adds n0 n1 number w (Constant (wrap w (pos phase))) → Adds n1 n2 same 1 (Equal index number) → Adds n2 n3 clear 1 (Constant (wrap 1 (pos 0))) → Adds n3 n4 bit 1 (Mux on same clear) → IsCounter n0 n4 (IsTickOfPhase period first count phase) bit
 IsPhase-circuit {n0} {n1} {n2} {n3} {n4} {w} {phase} {on} {index} {number} {same} {clear} {bit} period first count wide positive below room g0 on0 index0 gate counted a1 a2 a3 a4 =
     let g1 : n1.group ≡ 0 = a1.group ∙ g0 in
     let g2 : n2.group ≡ 0 = a2.group ∙ g1 in
@@ -285,9 +285,9 @@ IsPhase-circuit {n0} {n1} {n2} {n3} {n4} {w} {phase} {on} {index} {number} {same
         let r2 = (Extends-adds a3).runs cut law x v r3 in
         let r1 = (Extends-adds a2).runs cut law x v r2 in
         record {
-          numbers = λ t. r1.each number.place _ (cell_of_added a1) t ∙ as_control cut law _ w _ (nameless_zero n0.group g0);
+          numbers = λ t. r1.each number.place _ (cell_of_added a1) t ∙ constant_control cut law _ w _ wide (nameless_zero n0.group g0);
           sames = λ t. r2.each same.place _ (cell_of_added a2) t ∙ as_control cut law _ 1 _ (nameless_zero n1.group g1);
-          clears = λ t. r3.each clear.place _ (cell_of_added a3) t ∙ as_control cut law _ 1 _ (nameless_zero n2.group g2);
+          clears = λ t. r3.each clear.place _ (cell_of_added a3) t ∙ constant_control cut law _ 1 _ (omega arith) (nameless_zero n2.group g2);
           bits = λ t. r.each bit.place _ (cell_of_added a4) t ∙ as_control cut law _ 1 _ (nameless_zero n3.group g3);
         }
 

@@ -3,7 +3,8 @@ use Rattle.std.proofs.Common.{◌≡◌, ℕ, zero, suc, ◌+◌, ◌-◌, ◌*�
 use Rattle.std.proofs.lemmas.Bool.{cases_eq}
 use Rattle.std.proofs.lemmas.Int.{ints}
 use Rattle.std.proofs.lemmas.Option.{slice_get_within}
-use Rattle.mr_values.proofs.WidthLemmas.{FitsWidth-zero}
+use Rattle.mr_values.proofs.WidthLemmas.{wrap_zero, FitsWidth-zero}
+use Rattle.mr_values.specs.Width.{wrap}
 use Rattle.net_graph.specs.declared.cell.Cell.{Cell}
 use Rattle.net_graph.specs.declared.cell.Node.{Node}
 use Rattle.net_graph.specs.declared.cell.Leaf.{Leaf}
@@ -343,7 +344,7 @@ module _ (old net : NetView) (leaves terms : List Leaf) (widths : List ℕ) (lev
   }
 
 -- no leaves give the constant 0 and no register
-pub IsTree-none : (old new : NetView) (leaves : List Leaf) (widths : List ℕ) (levels : ℕ) (root : Node) → 1 ≤ old.group → leaves ≡ [] → Adds old new root 1 (Constant (pos 0)) → IsTree old new leaves widths levels [] root
+pub IsTree-none : (old new : NetView) (leaves : List Leaf) (widths : List ℕ) (levels : ℕ) (root : Node) → 1 ≤ old.group → leaves ≡ [] → Adds old new root 1 (Constant (wrap 1 (pos 0))) → IsTree old new leaves widths levels [] root
 IsTree-none old new leaves widths levels root data_group empty a = rw empty (record {
   grows = Grows-data data_group a refl;
   within = slice_get_within new.cells root.place _ (cell_of_added a);
@@ -353,7 +354,7 @@ IsTree-none old new leaves widths levels root data_group empty a = rw empty (rec
     holds = λ cut law x v r fits lower j register h within. let e = level_count-none (suc lower) in absurd (omega arith);
   };
   sums = λ cut law x v r fits t.
-      r.each root.place _ (cell_of_added a) t ∙ ap (λ (c : Bool). cut c 1 (pos 0)) (nameless_data old.group true data_group) ∙ law.fitting false 1 (pos 0) (omega arith) (FitsWidth-zero 1) ∙ sym (delayed_nothing levels t);
+      r.each root.place _ (cell_of_added a) t ∙ ap (λ (c : Bool). cut c 1 (wrap 1 (pos 0))) (nameless_data old.group true data_group) ∙ ap (cut false 1) (wrap_zero 1 (omega arith)) ∙ law.fitting false 1 (pos 0) (omega arith) (FitsWidth-zero 1) ∙ sym (delayed_nothing levels t);
   adders = adders_plain old.group a refl ∙ omega arith;
   same_named = SameNamed-adds a;
   named = λ count c k node is. absurd (cc);

@@ -55,10 +55,10 @@ IsMap-floor {old} {new} {from} {to} {range} {shift} {w} data_group a least =
           (fits_between w _ _ _ least.holds_low least.holds_high (floor_mono range.lo (v t from.place) (2 ^ shift) (pow_pos shift) low) (floor_mono (v t from.place) range.hi (2 ^ shift) (pow_pos shift) high));
     }
 
-pub IsMap-sum : {old mid new : NetView} {from constant to : Node} {range : Range} {half : ℤ} {w u : ℕ} → 1 ≤ old.group → Adds old mid constant u (Constant half) → Adds mid new to w (Add from constant) → IsLeastWidth half half u → IsLeastWidth (range.lo +ℤ half) (range.hi +ℤ half) w → IsMap old new from range (λ v. v +ℤ half) 1 to
+pub IsMap-sum : {old mid new : NetView} {from constant to : Node} {range : Range} {half : ℤ} {w u : ℕ} → 1 ≤ old.group → Adds old mid constant u (Constant (wrap u half)) → Adds mid new to w (Add from constant) → IsLeastWidth half half u → IsLeastWidth (range.lo +ℤ half) (range.hi +ℤ half) w → IsMap old new from range (λ v. v +ℤ half) 1 to
 IsMap-sum {old} {mid} {new} {from} {constant} {to} {range} {half} {w} {u} data_group a b narrow least =
-    let first : AddsNode old mid 0 constant (λ cut v t. cut false u half) =
-    AddsNode-adds 0 (λ cut v t. cut false u half) data_group a refl (adders_plain old.group a refl ∙ omega arith) (λ cut law x v r o t. o t) in
+    let first : AddsNode old mid 0 constant (λ cut v t. cut false u (wrap u half)) =
+    AddsNode-adds 0 (λ cut v t. cut false u (wrap u half)) data_group a refl (adders_plain old.group a refl ∙ omega arith) (λ cut law x v r o t. o t) in
     let second : AddsNode mid new 1 to (λ cut v t. cut false w (v t from.place +ℤ v t constant.place)) =
     AddsNode-adds 1 (λ cut v t. cut false w (v t from.place +ℤ v t constant.place)) (subst (λ (g : ℕ). 1 ≤ g) (sym a.group) data_group) b refl (adders_more mid.group b refl refl) (λ cut law x v r o t. o t) in
     record {
@@ -68,7 +68,7 @@ IsMap-sum {old} {mid} {new} {from} {constant} {to} {range} {half} {w} {u} data_g
       names = LeavesFree-trans old.cells mid.cells new.cells (λ name. ⊥) (λ name. ⊥) (λ name. ⊥) (λ name h. h) (λ name h. h) first.names second.names;
       within = second.computes.within;
       maps = λ x v r t low high.
-          let held : v t constant.place ≡ half = first.computes.holds cut_all IsCut-all x v (second.grows.extends.runs cut_all IsCut-all x v r) t ∙ wrap_fits u half narrow.positive narrow.holds_low in
+          let held : v t constant.place ≡ half = first.computes.holds cut_all IsCut-all x v (second.grows.extends.runs cut_all IsCut-all x v r) t ∙ ap (wrap u) (wrap_fits u half narrow.positive narrow.holds_low) ∙ wrap_fits u half narrow.positive narrow.holds_low in
           second.computes.holds cut_all IsCut-all x v r t
           ∙ ap (λ (n : ℤ). wrap w (v t from.place +ℤ n)) held
           ∙ wrap_fits w (v t from.place +ℤ half) least.positive

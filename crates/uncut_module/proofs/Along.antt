@@ -25,14 +25,14 @@ use Rattle.net_module.specs.Written.{IsWritable, is_register}
 use Rattle.net_module.specs.Steps.{ticks_in, samples_of, width_in}
 use Rattle.net_module.proofs.Along.{steps_as}
 use Rattle.net_module.proofs.Cycles.{D, C, N, register_is, wide_of}
-use Rattle.uncut_module.specs.Uncut.{HasFitConstants, RunsUncut, StepsUncut}
+use Rattle.uncut_module.specs.Uncut.{RunsUncut, StepsUncut}
 use Rattle.uncut_module.proofs.Cycle.{rst_number, ce_number, resets, rests, takes, register_kept, control_number, numbers_hold}
 use Rattle.uncut_module.proofs.Indexed.{slice_get-drop, CycleAt, cycle_at, UncutAt, UncutAfter, uncut_after, no_reset_at, one_more, ticks_after_one, sample_at}
 
 same_cycle : (c d : Cycle) → Some c ≡ Some d → c ≡ d
 same_cycle c d e = cc
 
-module _ (cells : List Cell) (netlist : IsNetlist cells) (closed : IsControlClosed cells) (fit : HasFitConstants cells) (writable : IsWritable cells) (content : Values) (before after : List Cycle) (reset : Cycle) (settled : List Values) (uncut : List Numbers) (worth : Worth)
+module _ (cells : List Cell) (netlist : IsNetlist cells) (closed : IsControlClosed cells) (writable : IsWritable cells) (content : Values) (before after : List Cycle) (reset : Cycle) (settled : List Values) (uncut : List Numbers) (worth : Worth)
     (runs : RunsUncut cells content before after reset settled uncut worth) where
   abbrev X : ℕ → ℤ
   X = samples_of (width_in cells) after
@@ -102,7 +102,7 @@ module _ (cells : List Cell) (netlist : IsNetlist cells) (closed : IsControlClos
       let cycle = cycle_of (suc j) here.values here.there in
       let same : cycle.cycle ≡ c = same_cycle cycle.cycle c (sym cycle.there ∙ there) in
       let sample = sample_at after j c there on in
-      numbers_hold cells netlist writable cycle.cycle cycle.content here.values cycle.settling start now here.numbers fit X worth (ticks j) runs.net
+      numbers_hold cells netlist writable cycle.cycle cycle.content here.values cycle.settling start now here.numbers X worth (ticks j) runs.net
       (ap (signed (width_in cells)) (sample ∙ ap (λ (d : Cycle). d.in_data) (sym same))) registers
       (λ place cell at control.
       control_number cells netlist writable cycle.cycle cycle.content here.values cycle.settling start now here.numbers place cell (cut_worth (ticks j) place) at control
@@ -180,8 +180,8 @@ module _ (cells : List Cell) (netlist : IsNetlist cells) (closed : IsControlClos
       let a = uncut_after (D cells netlist writable) runs.begins part uncut j now runs.numbers at in
       nodes_from j (whole_next (D cells netlist writable) a.before) now a.then c there on (registers_hold j now at)
 
-pub steps_uncut : (cells : List Cell) → IsNetlist cells → IsControlClosed cells → HasFitConstants cells → IsWritable cells → StepsUncut cells
-steps_uncut cells netlist closed fit writable = record {
-  registers = λ content before after reset settled uncut worth runs. registers_hold cells netlist closed fit writable content before after reset settled uncut worth runs;
-  nodes = λ content before after reset settled uncut worth runs. nodes_hold cells netlist closed fit writable content before after reset settled uncut worth runs;
+pub steps_uncut : (cells : List Cell) → IsNetlist cells → IsControlClosed cells → IsWritable cells → StepsUncut cells
+steps_uncut cells netlist closed writable = record {
+  registers = λ content before after reset settled uncut worth runs. registers_hold cells netlist closed writable content before after reset settled uncut worth runs;
+  nodes = λ content before after reset settled uncut worth runs. nodes_hold cells netlist closed writable content before after reset settled uncut worth runs;
 }

@@ -33,7 +33,6 @@ use Rattle.net_module.proofs.Numbers.{number_input, number_apart}
 use Rattle.net_module.proofs.Lists.{assignment_of, assign_at}
 use Rattle.net_module.proofs.Outputs.{signed_value-true}
 use Rattle.net_module.proofs.Cycles.{D, S, C, N, inputs, input_is, register_data, wire_of, wide_of, width_of, sign_of, signal_of, register_source, rst_is, ce_is, in_data_is}
-use Rattle.uncut_module.specs.Uncut.{HasFitConstants}
 use Rattle.uncut_module.proofs.Blocks.{block_gives, given_one}
 use Rattle.uncut_module.proofs.ControlNames.{control_of}
 use Rattle.uncut_module.proofs.Wires.{whole_item}
@@ -146,7 +145,7 @@ module _ (cells : List Cell) (netlist : IsNetlist cells) (writable : IsWritable 
         ∙ ap (λ (w : ℕ). signed w (now number)) (width_of cells netlist writable place cell at)
         ∙ ap (signed cell.width) bits ∙ kept
 
-    module _ (fit : HasFitConstants cells) (x : ℕ → ℤ) (worth : Worth) (t : ℕ) (run : IsRun cut_control cells x worth) (sample : x t ≡ signed (width_in cells) c.in_data)
+    module _ (x : ℕ → ℤ) (worth : Worth) (t : ℕ) (run : IsRun cut_control cells x worth) (sample : x t ≡ signed (width_in cells) c.in_data)
         (registers : (place : ℕ) (cell : Cell) → slice_get cells place ≡ Some cell → is_register cell.item ≡ true → numbers (N cells netlist writable place) ≡ worth t place)
         (controls : (place : ℕ) (cell : Cell) → slice_get cells place ≡ Some cell → is_control cell ≡ true → numbers (N cells netlist writable place) ≡ worth t place) where
       obeys : (place : ℕ) (cell : Cell) (item : Option Item) → slice_get cells place ≡ Some cell → is_control cell ≡ false → cell.item ≡ item → Obeys (λ v. v) x worth place item
@@ -179,7 +178,7 @@ module _ (cells : List Cell) (netlist : IsNetlist cells) (writable : IsWritable 
           ∙ uncut.wires (suc (suc a.0)) (assignment_of number cell (0 + place)) a.1 (ap (λ (p : ℕ). texts.is_control (text_of (D cells netlist writable) (number p))) here ∙ control_of cells place cell at ∙ data_node)
           ∙ ap (λ (i : Option Item). whole (S cells netlist writable) (tree_for number cell.width i) numbers) is
           ∙ whole_item (S cells netlist writable) numbers number (worth t) (x t) place (length cells) cell.width item (wide_of cells netlist writable place cell at) wire
-          (λ v e. fit.each place cell v at data_node (is ∙ ap Some e)) (subst (OperandsBelow place (length cells) cell.width) is (netlist.well_formed.each place cell at).operands) held
+          (subst (OperandsBelow place (length cells) cell.width) is (netlist.well_formed.each place cell at).operands) held
           ∙ sym (wire_obeys place item wire (obeys place cell (Some item) at data_node is))
 
       data_number : (place : ℕ) (cell : Cell) (item : Option Item) → slice_get cells place ≡ Some cell → is_control cell ≡ false → cell.item ≡ item → IsSome item

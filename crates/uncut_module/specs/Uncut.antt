@@ -1,20 +1,13 @@
 -- The uncut run of the written module has the numbers of the net's uncut run.
-use Rattle.std.specs.Prelude.{◌≡◌, ℕ, suc, true, false, ℤ, List, length, take, drop, Some, slice_get}
-use Rattle.mr_values.specs.Width.{FitsWidth}
+use Rattle.std.specs.Prelude.{◌≡◌, ℕ, suc, true, List, length, take, drop, Some, slice_get}
 use Rattle.net_graph.specs.declared.cell.Cell.{Cell}
-use Rattle.net_graph.specs.declared.cell.Item.TheVariants.{Constant}
 use Rattle.net_graph.specs.Cut.{cut_control}
-use Rattle.net_graph.specs.Name.{is_control}
 use Rattle.net_graph.specs.Run.{IsRun, Values as Worth}
 use Rattle.verilog_tree.specs.Meaning.{Values}
 use Rattle.verilog_tree.specs.Shown.{Cycle}
 use Rattle.verilog_tree.specs.Uncut.{Numbers, IsUncutRun}
 use Rattle.net_module.specs.Written.{written_module, number_of, is_register}
 use Rattle.net_module.specs.Steps.{RunsAfterReset, ticks_in, samples_of, width_in}
-
--- each constant outside control fits its node's width
-pub record HasFitConstants (cells : List Cell) : Type 0 where
-  pub each : (place : ℕ) (cell : Cell) (v : ℤ) → slice_get cells place ≡ Some cell → is_control cell ≡ false → cell.item ≡ Some (Constant v) → FitsWidth cell.width v
 
 -- An uncut run of the written module that begins, with any numbers of the registers, at the last reset cycle of a run; and the uncut
 -- run of the net over the samples at the ticks since then.

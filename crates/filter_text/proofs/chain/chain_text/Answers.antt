@@ -1,19 +1,19 @@
-use Rattle.std.proofs.Common.{◌≡◌, ℕ, List, Result, Ok, Err, IfOk, subst, sym, ◌∙◌}
+use Rattle.std.proofs.Common.{ℕ, Result, Ok, Err, IfOk, subst, sym, ◌∙◌}
 use Rattle.mr_values.specs.Value.{size}
 use Rattle.mr_values.specs.Width.{IsLeastWidth}
-use Rattle.mr_values.specs.Timing.{last_stream, latency}
+use Rattle.mr_values.specs.Timing.{last_stream}
 use Rattle.verilog_tree.specs.Tree.{Design}
 use Rattle.verilog_text.specs.Grammar.{limits}
 use Rattle.verilog_text.specs.Shortest.{IsWritable}
 use Rattle.verilog_text.specs.Order.{IsInOrder, IsSameButPlaces}
 use Rattle.verilog_text.proofs.OneReading.{one_design}
-use Rattle.net_module.specs.Written.{written_module}
 use Rattle.net_module.proofs.Outputs.{shows_as}
 use Rattle.net_text.proofs.Writable.{has_text, in_order}
-use Rattle.filter_text.specs.Headline.{ShowsChain}
+use Rattle.filter_text.specs.Headline.{ShowsChain, KeepsOutput}
 use Rattle.filter_text.proofs.ChainLimits.{narrow_plan, wide_plan, some_ticks}
 use Rattle.filter_text.proofs.ChainPlaces.{chain_writable, output_wide}
 use Rattle.filter_text.proofs.ChainShows.{chain_shows}
+use Rattle.filter_text.proofs.UncutOutput.{keeps_output}
 use Rattle.filter_text.proofs.ReadModules.{passing, running, output_width}
 use Rattle.filter_text.proofs.chain.chain_text.Goals as goal
 
@@ -51,5 +51,9 @@ returns c =
       shows = subst (λ (p : ℕ). ShowsChain es W T c.args.facts.now.latency p read.0) (sym c.requires.are_facts.period_is)
           (subst (λ (l : ℕ). ShowsChain es W T l (last_stream W T es).period read.0) (sym c.requires.are_facts.latency_is)
           (chain_shows (wide_plan c.args.plan.now c.requires.accepted) (some_ticks c.args.plan.now c.requires.accepted) net.positive net (shows_as cells net.netlist can) read.0 as_written));
+      uncut = λ plain.
+          subst (λ (p : ℕ). KeepsOutput es W T c.args.facts.now.latency p read.0) (sym c.requires.are_facts.period_is)
+          (subst (λ (l : ℕ). KeepsOutput es W T l (last_stream W T es).period read.0) (sym c.requires.are_facts.latency_is)
+          (keeps_output (wide_plan c.args.plan.now c.requires.accepted) (narrow_plan c.args.plan.now c.requires.accepted) (some_ticks c.args.plan.now c.requires.accepted) net read.0 as_written plain));
     })
     c.text_of.result same

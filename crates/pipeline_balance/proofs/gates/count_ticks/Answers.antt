@@ -3,6 +3,7 @@ use Rattle.std.proofs.lemmas.Int.{to_z-of_z, ints}
 use mir.Val.{to_z, of_z, SFits}
 use mir.Syntax.{w128}
 use Rattle.net_graph.proofs.NetLemmas.{Extends-register, Extends-then, IsUnbound-added, IsUnbound-then}
+use Rattle.mr_values.specs.Width.{wrap}
 use Rattle.net_graph.specs.Grow.{Adds}
 use Rattle.net_graph.specs.declared.cell.Item.TheVariants.{Constant}
 use Rattle.pipeline_balance.proofs.CounterLemmas.{IsCounter-circuit, AddsCount-circuit}
@@ -39,9 +40,9 @@ bind-requires-clause-unbound c = IsUnbound-then (IsUnbound-then (IsUnbound-then 
 pub returns-clause-ok : goal.returns-clause-ok
 returns-clause-ok c =
     let value : to_z w128 (of_z w128 c.from.result) ≡ pos c.args.first = passed c.args.first c.from.result c.from.ensures (omega (arith, c.ranges.first)) in
-    let last = subst (λ (z : ℤ). Adds c.next_register.new.net c.constant.new.self c.in_ok-last.last c.bits_for-width.result (Constant z)) value c.in_ok-last.ensures.ok in
+    let last = subst (λ (z : ℤ). Adds c.next_register.new.net c.constant.new.self c.in_ok-last.last c.bits_for-width.result (Constant (wrap c.bits_for-width.result z))) value c.in_ok-last.ensures.ok in
     let below : to_z w128 (of_z w128 c.restart_of-again.result) ≡ pos (c.args.first + 1) -ℤ pos c.args.period = restarted c.args.period c.args.first c.restart_of-again.result c.restart_of-again.ensures (omega (arith, c.ranges.period)) (omega (arith, c.ranges.first)) in
-    let restart = subst (λ (z : ℤ). Adds c.constant.new.self c.constant-2.new.self c.in_ok-restart.restart c.bits_for-width.result (Constant z)) below c.in_ok-restart.ensures.ok in
+    let restart = subst (λ (z : ℤ). Adds c.constant.new.self c.constant-2.new.self c.in_ok-restart.restart c.bits_for-width.result (Constant (wrap c.bits_for-width.result z))) below c.in_ok-restart.ensures.ok in
     let bits = c.bits_for-width.ensures in
     let holds = bits.holds in
     let most : c.last_of.result ≡ max c.args.first (c.args.period - 1) = c.last_of.ensures in

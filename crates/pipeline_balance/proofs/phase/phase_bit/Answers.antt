@@ -3,6 +3,7 @@ use Rattle.std.proofs.lemmas.Int.{to_z-of_z, ints}
 use mir.Val.{to_z, of_z, SFits}
 use mir.Syntax.{w128}
 use Rattle.net_graph.proofs.NetLemmas.{Extends-adds, Extends-then}
+use Rattle.mr_values.specs.Width.{wrap}
 use Rattle.net_graph.specs.Grow.{Adds}
 use Rattle.net_graph.specs.declared.cell.Item.TheVariants.{Constant}
 use Rattle.pipeline_balance.proofs.PhaseLemmas.{IsPhase-circuit}
@@ -23,7 +24,7 @@ returns-in_err-bit-clause-extends c = rw c.in_err-bit.ensures.err (Extends-then 
 pub returns-clause-ok : goal.returns-clause-ok
 returns-clause-ok c period first count positive below room gate counted =
     let value : to_z w128 (of_z w128 c.from.result) ≡ pos c.args.phase = passed c.args.phase c.from.result c.from.ensures (omega (arith, c.ranges.phase)) in
-    let number = subst (λ (z : ℤ). Adds c.args.net.now c.constant.new.self c.in_ok-number.number c.args.width (Constant z)) value c.in_ok-number.ensures.ok in
+    let number = subst (λ (z : ℤ). Adds c.args.net.now c.constant.new.self c.in_ok-number.number c.args.width (Constant (wrap c.args.width z))) value c.in_ok-number.ensures.ok in
     IsPhase-circuit period first count c.requires.wide.0 positive below room c.requires.control c.requires.on_control c.requires.index_control gate counted number c.in_ok-same.ensures.ok c.in_ok-clear.ensures.ok c.in_ok-bit.ensures.ok
 
 pub returns-clause-extends : goal.returns-clause-extends

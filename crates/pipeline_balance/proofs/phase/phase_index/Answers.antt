@@ -3,6 +3,7 @@ use Rattle.std.proofs.lemmas.Int.{to_z-of_z, ints}
 use mir.Val.{to_z, of_z, SFits}
 use mir.Syntax.{w128}
 use Rattle.net_graph.proofs.NetLemmas.{Extends-register, Extends-then, Extends-trans, IsUnbound-added, IsUnbound-then}
+use Rattle.mr_values.specs.Width.{wrap}
 use Rattle.net_graph.specs.Grow.{Adds}
 use Rattle.net_graph.specs.declared.cell.Item.TheVariants.{Constant}
 use Rattle.pipeline_balance.proofs.PhaseLemmas.{IsIndex-circuit, index_extends}
@@ -38,7 +39,7 @@ bind-requires-clause-unbound c = IsUnbound-then (IsUnbound-then (IsUnbound-then 
 pub returns-clause-ok : goal.returns-clause-ok
 returns-clause-ok c period first positive gate =
     let value : to_z w128 (of_z w128 c.last_of-top.result) ≡ pos (c.args.count - 1) = passed (c.args.count - 1) c.last_of-top.result c.last_of-top.ensures (omega (arith, c.ranges.count)) in
-    let last = subst (λ (z : ℤ). Adds c.next_register.new.net c.constant.new.self c.in_ok-last.last c.args.width (Constant z)) value c.in_ok-last.ensures.ok in
+    let last = subst (λ (z : ℤ). Adds c.next_register.new.net c.constant.new.self c.in_ok-last.last c.args.width (Constant (wrap c.args.width z))) value c.in_ok-last.ensures.ok in
     IsIndex-circuit period first c.requires.wide.0 positive c.requires.some c.requires.room c.requires.control c.requires.is_control gate c.in_ok-index.ensures.ok last c.in_ok-none.ensures.ok
     c.in_ok-one.ensures.ok c.in_ok-done.ensures.ok c.in_ok-more.ensures.ok c.in_ok-next.ensures.ok c.in_ok-held.ensures.ok c.bind.ensures
 

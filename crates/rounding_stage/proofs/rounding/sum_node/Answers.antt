@@ -1,7 +1,7 @@
 use Rattle.std.proofs.Common.{◌≡◌, ℤ, subst, to_z, of_z}
 use Rattle.std.proofs.lemmas.Int.{to_z-of_z}
 use mir.Syntax.{w128}
-use Rattle.mr_values.specs.Width.{IsLeastWidth}
+use Rattle.mr_values.specs.Width.{IsLeastWidth, wrap}
 use Rattle.stage_law.specs.declared.ranges.Range.{Range}
 use Rattle.net_graph.specs.Grow.{Adds}
 use Rattle.net_graph.specs.declared.cell.Item.TheVariants.{Constant}
@@ -13,7 +13,7 @@ pub returns-clause-ok : goal.returns-clause-ok
 returns-clause-ok c =
     let back : to_z w128 (of_z w128 c.args.half) ≡ c.args.half = to_z-of_z w128 c.args.half c.ranges.half in
     IsMap-sum c.requires.data_group
-    (subst (λ (z : ℤ). Adds c.args.net.now c.constant.new.self c.in_ok-constant.constant c.least_width-narrow.result (Constant z)) back c.in_ok-constant.ensures.ok)
+    (subst (λ (z : ℤ). Adds c.args.net.now c.constant.new.self c.in_ok-constant.constant c.least_width-narrow.result (Constant (wrap c.least_width-narrow.result z))) back c.in_ok-constant.ensures.ok)
     c.in_ok-to.ensures.ok
     (subst (λ (z : ℤ). IsLeastWidth z z c.least_width-narrow.result) back c.least_width-narrow.ensures)
     (subst (λ (r : Range). IsLeastWidth r.lo r.hi c.width_of-width.result) c.requires.more c.width_of-width.ensures)
