@@ -65,6 +65,7 @@ impl Lines {
         ensures fault { self.new.fault ≡ None }
         ensures row { IfOk result (λ found. OnSome found (byte ≡ 10)) }
         ensures ended { IfOk result (λ found. self.old.ended + length (option_to_list found) ≤ self.new.ended) }
+        ensures more { self.old.ended ≤ self.new.ended }
         ensures few { self.new.ended < 2 ^ 32 }
     {
         if self.ended + 1 >= LINES {
@@ -95,6 +96,7 @@ impl Lines {
         ensures none { OnOk result (self.new.fault ≡ None) }
         ensures row { IfOk result (λ found. OnSome found (byte ≡ 10)) }
         ensures ended { IfOk result (λ found. self.old.ended + length (option_to_list found) ≤ self.new.ended) }
+        ensures more { self.old.ended ≤ self.new.ended }
         ensures few { self.new.ended < 2 ^ 32 }
     {
         let answer = self.add(byte);
@@ -115,7 +117,8 @@ impl Lines {
 
         // There are never more rows than lines, of which there are fewer than 2^32.
         ensures ended { IfOk result (λ step. self.old.ended + length (option_to_list step.found) ≤ self.new.ended) }
-        ensures few { OnOk result (self.new.ended < 2 ^ 32) }
+        ensures more { self.old.ended ≤ self.new.ended }
+        ensures few { self.new.ended < 2 ^ 32 }
 
         ensures fault { IfErr result (λ fault. (rest : List ℕ) → rows_from self.old (piece.now ++ rest) ≡ refused fault) }
         ensures kept { IfErr result (λ fault. self.new.fault ≡ Some fault) }

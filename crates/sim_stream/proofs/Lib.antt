@@ -1,0 +1,2 @@
+pub mod CycleSteps
+pub mod SignSteps
