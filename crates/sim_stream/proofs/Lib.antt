@@ -1,2 +1,3 @@
 pub mod CycleSteps
 pub mod SignSteps
+pub mod StreamSteps

@@ -49,10 +49,13 @@ impl<'a> SimStream<'a> {
         ensures short { length out.new.items ≤ length out.old.items + 124 }
     {
         let step = self.lines.take(piece)?;
-        if let Some(row) = step.found {
-            self.tick = run_cycle(alloc, &mut self.sim, &row, self.cycle, self.tick, out)?;
-            self.cycle += 1;
+        match step.found {
+            None => Ok(step.taken),
+            Some(row) => {
+                self.tick = run_cycle(alloc, &mut self.sim, &row, self.cycle, self.tick, out)?;
+                self.cycle += 1;
+                Ok(step.taken)
+            }
         }
-        Ok(step.taken)
     }
 }
