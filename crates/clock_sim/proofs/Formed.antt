@@ -1,18 +1,16 @@
 -- A module that is formed and passes the checks can be simulated.
-use Rattle.std.proofs.Common.{◌≡◌, ℕ, zero, suc, ◌+◌, ◌<◌, ◌≤◌, ◌^◌, Bool, true, false, not, ◌&&◌, ◌||◌, cond, List, [], ◌∷◌, length, map, Option, None, Some, slice_get, get_or, find, refl, sym, ◌∙◌, ap, arith, subst}
-use Rattle.std.specs.Prelude.{◌==◌, nat_lt, nat_le, bytes_eq, codes, IsTrue, All}
-use Rattle.std.specs.List.{list_any, position_or_len}
-use Rattle.std.specs.Option.{option_map, option_map_or, unwrap_or}
+use Rattle.std.proofs.Common.{◌≡◌, ℕ, zero, suc, ◌<◌, ◌≤◌, ◌^◌, Bool, true, false, not, ◌&&◌, ◌||◌, cond, List, [], ◌∷◌, length, Option, None, Some, slice_get, get_or, find, refl, arith, subst}
+use Rattle.std.specs.Prelude.{◌==◌, nat_lt, nat_le, IsTrue}
+use Rattle.std.specs.Option.{option_map, option_map_or}
 use Rattle.std.proofs.lemmas.Bool.Decides.{nat_tests}
 use Rattle.std.proofs.lemmas.Option.{slice_get_within, slice_get-get_or}
-use Rattle.mr_values.proofs.FilesByName.{bytes_eq-equal}
 use Rattle.verilog_tree.specs.declared.tree.Signal.{Signal}
 use Rattle.verilog_tree.specs.Tree.{Tree, Trees, Name, Bit, Part, Plain, Based, Cat, Not, Binary, Shift, Choice, none, more, Action, Actions, Block, When, Either, Give, no_action, action, Assignment, Design}
 use Rattle.verilog_tree.specs.Meaning.{Shapes, IsFitting, fits, all_fit, is_width, length_of, total_length}
-use Rattle.verilog_tree.specs.Names.{declaration_in, shapes_in, shapes_of, text_of, number_of}
-use Rattle.verilog_tree.specs.Checks.{Use, Assigned, Given, Read, Selected, tree_uses, trees_uses, action_uses, actions_uses, blocks_uses, assigns_uses, uses, is_bad_select, is_over, has_over, any_over, used_name, declarations, Side, action_sides, actions_sides, blocks_sides, assigns_sides, sides, Passes}
+use Rattle.verilog_tree.specs.Names.{declaration_in, shapes_in, shapes_of, text_of}
+use Rattle.verilog_tree.specs.Checks.{Use, Selected, tree_uses, trees_uses, action_uses, actions_uses, blocks_uses, assigns_uses, uses, is_bad_select, is_over, has_over, any_over, used_name, declarations, Side, action_sides, actions_sides, blocks_sides, assigns_sides, sides, Passes}
 use Rattle.verilog_tree.proofs.Parts.{fits_range, and_parts}
-use Rattle.verilog_text.specs.Grammar.{limits, Limits}
+use Rattle.verilog_text.specs.Grammar.{limits}
 use Rattle.verilog_text.specs.Shortest.{IsFormed, AreFormed, HasMembers, IsFormedAction, AreFormedActions, IsFormedAssignment, IsFormedBlock, IsFormedSignal, AllFormed, IsWritable}
 use Rattle.module_laws.proofs.TextOrder.{Every, from_order, nothing_found}
 use Rattle.module_laws.proofs.Passing.{NoneFails, none_fails, none_mapped, no_first, no_second}

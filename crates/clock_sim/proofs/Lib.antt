@@ -5,3 +5,4 @@ pub mod Simulated
 pub mod Staged
 pub mod Start
 pub mod Tables
+pub mod PortWidths

@@ -1,21 +1,19 @@
 -- Where the input ports stand among the names.
-use Rattle.std.proofs.Common.{◌≡◌, ℕ, zero, suc, ◌+◌, ◌<◌, ◌≤◌, Bool, true, false, not, ◌&&◌, ◌||◌, cond, List, [], ◌∷◌, length, map, take, get_or, Option, None, Some, slice_get, find, refl, sym, ◌∙◌, ap, arith, subst}
+use Rattle.std.proofs.Common.{◌≡◌, ℕ, zero, suc, ◌+◌, ◌<◌, Bool, true, false, not, ◌&&◌, ◌||◌, cond, List, [], ◌∷◌, length, get_or, Option, None, Some, slice_get, find, refl, sym, ◌∙◌, ap, arith, subst}
 use Rattle.std.specs.Prelude.{bytes_eq, codes}
 use Rattle.std.specs.List.{list_any, position_or_len, prefix_len}
 use Rattle.std.specs.Option.{option_map, unwrap_or}
-use Rattle.std.proofs.lemmas.Option.{slice_get_within, slice_get_read}
+use Rattle.std.proofs.lemmas.Option.{slice_get_within}
 use Rattle.std.proofs.lemmas.List.Sums.{position_or_len_is}
 use Rattle.mr_values.proofs.FilesByName.{bytes_eq-equal}
 use Rattle.verilog_tree.specs.declared.tree.Signal.{Signal}
 use Rattle.verilog_tree.specs.Tree.{Design}
-use Rattle.verilog_tree.specs.Names.{shapes_of, text_of, number_of}
+use Rattle.verilog_tree.specs.Names.{text_of, number_of}
 use Rattle.verilog_tree.specs.Checks.{is_port, is_right_port, has_port, port_names, declarations, Passes}
-use Rattle.verilog_text.specs.Grammar.{limits}
-use Rattle.verilog_text.specs.Shortest.{IsWritable}
 use Rattle.module_laws.proofs.TextOrder.{Every, nothing_found}
 use Rattle.module_laws.proofs.Passing.{none_fails, no_second}
 
-not_false : (b : Bool) → not b ≡ false → b ≡ true
+pub not_false : (b : Bool) → not b ≡ false → b ≡ true
 not_false true e = refl
 not_false false e = absurd (cc)
 
@@ -45,7 +43,7 @@ some_passes test (s ∷ signals) is = by (test s) refl is (some_passes test sign
     by false e is rest = rest is
 
 -- a port that is there has its text among the names
-port_there : (d : Design) (c : ℕ) (text : List ℕ) → has_port d (c ∷ text) ≡ true → number_of d (c ∷ text) < length d.names
+pub port_there : (d : Design) (c : ℕ) (text : List ℕ) → has_port d (c ∷ text) ≡ true → number_of d (c ∷ text) < length d.names
 port_there d c text is =
     let found = some_passes (λ (s : Signal). is_port s.kind && bytes_eq (text_of d s.name) (c ∷ text)) d.signals is in
     let equal = and_second (is_port (found.0).kind) (bytes_eq (text_of d (found.0).name) (c ∷ text)) found.1 in
@@ -57,7 +55,7 @@ port_there d c text is =
     by n (Some x) at is equal = found_below (bytes_eq (c ∷ text)) d.names n (c ∷ text) (at ∙ ap Some is) equal
 
 module _ (d : Design) (passes : Passes d) where
-  ports_there : Every (λ text. not (has_port d text) ≡ false) port_names
+  pub ports_there : Every (λ text. not (has_port d text) ≡ false) port_names
   ports_there =
       nothing_found (λ text. not (has_port d text)) port_names
       (no_second (option_map (λ (s : Signal). text_of d s.name) (find (λ (s : Signal). is_port s.kind && not (is_right_port d s)) (declarations d))) _ (none_fails d passes.early).ports)

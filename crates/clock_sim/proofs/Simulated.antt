@@ -1,10 +1,10 @@
 -- The evaluation of all assignments in an order gives the settling.
-use Rattle.std.proofs.Common.{◌≡◌, ℕ, ◌+◌, ◌<◌, ◌≤◌, ◌^◌, Bool, true, false, List, Some, length, map, get_or, set, slice_get, refl, sym, ap, ◌∙◌, arith, subst}
-use Rattle.std.specs.Prelude.{◌==◌, if◌then◌else◌, All}
+use Rattle.std.proofs.Common.{◌≡◌, ℕ, ◌+◌, ◌<◌, ◌≤◌, ◌^◌, Bool, true, false, List, Some, length, get_or, set, slice_get, refl, sym, ap, ◌∙◌, arith, subst}
+use Rattle.std.specs.Prelude.{◌==◌, if◌then◌else◌}
 use Rattle.std.proofs.Math.Path.{fun_ext}
 use Rattle.std.proofs.lemmas.Bool.{eqb-true, eqb-false, eq-eqb, ne_eqb}
 use Rattle.std.proofs.lemmas.List.{get_or-set_same, get_or-set_other, length-map}
-use Rattle.std.proofs.lemmas.Option.{slice_get-map, slice_get-get_or, slice_get_within, slice_get_read}
+use Rattle.std.proofs.lemmas.Option.{slice_get-get_or, slice_get_within}
 use Rattle.verilog_tree.specs.declared.tree.Assign.{Assign}
 use Rattle.verilog_tree.specs.Tree.{Assignment, Design}
 use Rattle.verilog_tree.specs.Meaning.{Shapes, Values, FitNames, assigned}
@@ -16,7 +16,7 @@ use Rattle.verilog_tree.specs.View.{assignment_view, design_view}
 use Rattle.settle_order.specs.Placing.{IsEvaluationOrder}
 use Rattle.settle_order.proofs.Opened.{same_some}
 use Rattle.settle_order.proofs.Turns.{driver_at, viewed_at}
-use Rattle.clock_sim.specs.Simulated.{values_of, AssignsFit, AssignFits, IsSettledTo}
+use Rattle.clock_sim.specs.Simulated.{values_of, IsSettledTo}
 
 put_here : (v : Values) (n x : ℕ) → put v n x n ≡ x
 put_here v n x = ap (λ (b : Bool). if b then x else v n) (eq-eqb n n refl)

@@ -1,5 +1,5 @@
 -- What statements give to the registers, one after the other.
-use Rattle.std.proofs.Common.{◌≡◌, ℕ, zero, suc, ◌+◌, ◌<◌, ◌≤◌, Bool, true, false, ◌&&◌, List, [], ◌∷◌, drop, map, Option, None, Some, length, get_or, set, refl, sym, ap, ◌∙◌, arith, subst, add-one}
+use Rattle.std.proofs.Common.{◌≡◌, ℕ, zero, suc, ◌+◌, ◌<◌, Bool, true, false, ◌&&◌, List, [], ◌∷◌, drop, map, Option, None, Some, length, get_or, set, refl, sym, ap, ◌∙◌, arith, subst, add-one}
 use Rattle.std.specs.Prelude.{◌==◌, nat_lt, if◌then◌else◌, unwrap_or, IsTrue}
 use Rattle.std.proofs.lemmas.Bool.Decides.{nat_tests}
 use Rattle.verilog_tree.specs.declared.tree.Stmt.{Stmt}
@@ -11,7 +11,6 @@ use Rattle.verilog_tree.specs.Cycle.{given, process_of, circuit_of}
 use Rattle.verilog_tree.specs.View.{action_view, actions_view}
 use Rattle.clock_sim.specs.Simulated.{values_of, all_given, action_fits, actions_fit, blocks_fit, Given}
 use Rattle.clock_sim.proofs.Simulated.{values_set}
-use Rattle.verilog_tree.proofs.Parts.{and_parts}
 
 pub below_of : (a b : ℕ) → IsTrue (nat_lt a b) → a < b
 below_of a b h = grind (arith, nat_tests)

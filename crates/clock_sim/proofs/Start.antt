@@ -1,6 +1,6 @@
 -- The values of names at the start, and with the inputs of a cycle.
-use Rattle.std.proofs.Common.{◌≡◌, ℕ, zero, suc, ◌+◌, ◌<◌, ◌≤◌, ◌^◌, Bool, true, false, cond, List, [], ◌∷◌, length, drop, get_or, set, replicate, refl, sym, ◌∙◌, ap, arith, subst, add-one}
-use Rattle.std.specs.Prelude.{slice_index, if◌then◌else◌}
+use Rattle.std.proofs.Common.{◌≡◌, ℕ, zero, suc, ◌+◌, ◌<◌, ◌≤◌, ◌^◌, Bool, true, false, List, [], ◌∷◌, length, drop, get_or, set, replicate, refl, sym, ◌∙◌, ap, arith, subst, add-one}
+use Rattle.std.specs.Prelude.{if◌then◌else◌}
 use Rattle.std.proofs.Math.Path.{fun_ext}
 use Rattle.std.proofs.lemmas.List.{length-set}
 use Rattle.std.proofs.lemmas.Nat.{pow_pos}
@@ -12,7 +12,7 @@ use Rattle.verilog_tree.specs.Names.{shapes_of}
 use Rattle.verilog_tree.specs.Circuit.{put, with_inputs, Input as Start}
 use Rattle.verilog_tree.specs.Shown.{ports_of, inputs_of}
 use Rattle.verilog_text.specs.Shortest.{IsFormedSignal, AllFormed}
-use Rattle.clock_sim.specs.declared.sim.InputPorts.{InputPorts}
+use Rattle.clock_sim.specs.declared.sim.PortNames.{PortNames}
 use Rattle.clock_sim.specs.Simulated.{values_of}
 use Rattle.clock_sim.specs.Sim.{is_register, contents, AllFit, ArePorts, cycle_of}
 use Rattle.clock_sim.proofs.Simulated.{values_set, fit_put}
@@ -154,7 +154,7 @@ bit_fits t (suc width) some = let p = pow_pos width in by t (omega (arith, p))
     by true h = h
     by false h = omega (arith, h)
 
-module _ (d : Design) (ports : InputPorts) (values first second third : List ℕ) (rst ce : Bool) (in_data a b : ℕ) (fit : ArePorts d (length values) ports)
+module _ (d : Design) (ports : PortNames) (values first second third : List ℕ) (rst ce : Bool) (in_data a b : ℕ) (fit : ArePorts d (length values) ports)
     (at_rst : a ≡ bit_of rst) (at_ce : b ≡ bit_of ce) (one : first ≡ set values ports.rst a) (two : second ≡ set first ports.ce b) (three : third ≡ set second ports.in_data in_data) where
   first_long : length first ≡ length values
   first_long = ap length one ∙ length-set values ports.rst a

@@ -10,12 +10,12 @@ use Rattle.verilog_tree.specs.Meaning.{Shapes, FitNames}
 use Rattle.verilog_tree.specs.Names.{shapes_of}
 use Rattle.verilog_tree.specs.Checks.{Passes}
 use Rattle.verilog_tree.specs.Cycle.{circuit_of, IsDrivenOnce}
-use Rattle.verilog_tree.specs.Shown.{Cycle, Ports, ports_of}
+use Rattle.verilog_tree.specs.Shown.{Cycle, ports_of}
 use Rattle.verilog_tree.specs.View.{design_view}
 use Rattle.verilog_text.specs.Grammar.{limits}
 use Rattle.verilog_text.specs.Shortest.{IsWritable}
 use Rattle.settle_order.specs.Placing.{IsEvaluationOrder}
-use Rattle.clock_sim.specs.declared.sim.InputPorts.{InputPorts}
+use Rattle.clock_sim.specs.declared.sim.PortNames.{PortNames}
 use Rattle.clock_sim.specs.declared.shape_table.ShapeTable.{ShapeTable}
 use Rattle.clock_sim.specs.Simulated.{table_shapes, values_of, AssignsFit, blocks_fit}
 use Rattle.clock_sim.specs.Tables.{TellsShapes}
@@ -64,18 +64,27 @@ pub record HoldInitial (signals : List Signal) (patterns values : List ℕ) : Ty
 abbrev pub cycle_of : Bool → Bool → ℕ → Cycle
 cycle_of rst ce in_data = record { rst = rst; ce = ce; in_data = in_data }
 
--- the input ports of a module are among its first `count` names, and have at least one bit
-pub record ArePorts (d : Design) (count : ℕ) (ports : InputPorts) : Type 0 where
+-- a port has 1 to 127 bits
+pub record IsDataWidth (width : ℕ) : Type 0 where
+  pub least : 1 ≤ width
+  pub most : width ≤ 127
+
+-- the ports of a module: those that are set are among its first `count` names, and have at least one bit
+pub record ArePorts (d : Design) (count : ℕ) (ports : PortNames) : Type 0 where
   pub rst : ports.rst ≡ (ports_of d).rst
   pub ce : ports.ce ≡ (ports_of d).ce
   pub in_data : ports.in_data ≡ (ports_of d).in_data
+  pub out_valid : ports.out_valid ≡ (ports_of d).out_valid
+  pub out_data : ports.out_data ≡ (ports_of d).out_data
   pub rst_inside : ports.rst < count
   pub ce_inside : ports.ce < count
   pub in_data_inside : ports.in_data < count
   pub rst_width : 1 ≤ (shapes_of d).width ports.rst
   pub ce_width : 1 ≤ (shapes_of d).width ports.ce
+  pub in_data_width : IsDataWidth ((shapes_of d).width ports.in_data)
+  pub out_data_width : IsDataWidth ((shapes_of d).width ports.out_data)
 
-pub record IsSimulation (m : Module) (ports : InputPorts) (table : ShapeTable) (order values staged : List ℕ) : Type 0 where
+pub record IsSimulation (m : Module) (ports : PortNames) (table : ShapeTable) (order values staged : List ℕ) : Type 0 where
   pub driven : IsDrivenOnce (design_view m)
   pub tells : TellsShapes (table_shapes table.widths.items table.signs.items) (shapes_of (design_view m))
   pub assigns : AssignsFit (design_view m) (length values)

@@ -1,5 +1,5 @@
 -- What a simulator needs of a module and of the order in which it evaluates the assignments.
-use Rattle.std.specs.Prelude.{◌≡◌, ℕ, ◌<◌, ◌≤◌, Bool, true, false, ◌&&◌, nat_lt, IsTrue, List, [], ◌∷◌, All, Option, Some, get_or, unwrap_or, slice_get, slice_index}
+use Rattle.std.specs.Prelude.{◌≡◌, ℕ, ◌<◌, Bool, true, false, ◌&&◌, nat_lt, IsTrue, List, [], ◌∷◌, Option, Some, get_or, unwrap_or, slice_get, slice_index}
 use Rattle.verilog_tree.specs.Tree.{Action, Actions, Block, When, Either, Give, no_action, action, Assignment, Design}
 use Rattle.verilog_tree.specs.Meaning.{Shapes, Values, fits, is_width, assigned, IsFitting}
 use Rattle.verilog_tree.specs.Names.{shapes_of}

@@ -5,4 +5,4 @@ mod shape_table;
 mod sim;
 mod steps;
 
-pub use sim::Sim;
+pub use sim::{PortShape, Sim};

@@ -1,6 +1,6 @@
 // A simulator of a module.
 
-ghost use Rattle.std.specs.Prelude.{◌≡◌, ℕ, ◌^◌, ◌<◌, ◌≤◌, IfOk, length, Some, slice_get};
+ghost use Rattle.std.specs.Prelude.{◌≡◌, ℕ, ◌^◌, ◌<◌, ◌≤◌, IfOk, length, Some, slice_get, not, ◌==◌};
 ghost use Rattle.verilog_tree.specs.Meaning.{FitNames, bit_of};
 ghost use Rattle.verilog_tree.specs.Names.{shapes_of, number_of};
 ghost use Rattle.verilog_tree.specs.Circuit.{IsSettling, with_inputs, next};
@@ -8,8 +8,9 @@ ghost use Rattle.verilog_tree.specs.Cycle.{circuit_of};
 ghost use Rattle.verilog_tree.specs.Shown.{inputs_of, ports_of};
 ghost use Rattle.verilog_tree.specs.View.{design_view};
 ghost use Rattle.verilog_tree.specs.declared.tree.Signal.{Signal};
-ghost use Rattle.clock_sim.specs.Simulated.{values_of};
-ghost use Rattle.clock_sim.specs.Sim.{Simulation, IsSound, ArePorts, is_register, AreInitial, HoldInitial, cycle_of};
+ghost use Rattle.clock_sim.specs.Simulated.{table_shapes, values_of};
+ghost use Rattle.clock_sim.specs.Tables.{TellsShapes};
+ghost use Rattle.clock_sim.specs.Sim.{Simulation, IsSound, ArePorts, is_register, AreInitial, HoldInitial, IsDataWidth, cycle_of};
 
 use crate::shape_table::{ShapeTable, table_of};
 use crate::steps::{edge, settle, write};
@@ -17,14 +18,23 @@ use mr_values::Memory;
 use settle_order::evaluation_order;
 use std::alloc::Global;
 use std::marker::Model;
-use verilog_tree::{Kind, Module};
+use verilog_tree::{Declarations, Kind, Module};
 
-/// The numbers of the names of the inputs.
+/// The numbers of the names of the ports that are set and read.
 #[derive(Clone, Copy, PartialEq, Eq, Debug)]
-pub struct InputPorts {
+pub struct PortNames {
     pub rst: usize,
     pub ce: usize,
     pub in_data: usize,
+    pub out_valid: usize,
+    pub out_data: usize,
+}
+
+/// How a port is declared: its bits, and whether it is signed.
+#[derive(Clone, Copy, PartialEq, Eq, Debug)]
+pub struct PortShape {
+    pub width: u8,
+    pub signed: bool,
 }
 
 // The number of the first name with this text, and past the last where there is none.
@@ -40,15 +50,31 @@ fn name_number(design: &Module, text: &str) -> usize
     names.len()
 }
 
-// The names of the input ports.
-fn input_ports(design: &Module) -> InputPorts
+// The names of the ports.
+fn port_names(design: &Module) -> PortNames
     requires { IsSound (design_view design.now) }
     ensures { ArePorts (design_view design.now) (length (design_view design.now).names) result }
 {
-    InputPorts {
+    PortNames {
         rst: name_number(design, "rst"),
         ce: name_number(design, "ce"),
         in_data: name_number(design, "in_data"),
+        out_valid: name_number(design, "out_valid"),
+        out_data: name_number(design, "out_data"),
+    }
+}
+
+// How the name of a port is declared.
+fn shape_of(table: &ShapeTable, design: &Module, name: usize) -> PortShape
+    requires table { TellsShapes (table_shapes table.now.widths.items table.now.signs.items) (shapes_of (design_view design.now)) }
+    requires bits { IsDataWidth ((shapes_of (design_view design.now)).width name) }
+    ensures width { result.width ≡ (shapes_of (design_view design.now)).width name }
+    ensures signed { result.signed ≡ (shapes_of (design_view design.now)).signed name }
+{
+    let _known = design.name;
+    PortShape {
+        width: table.width_of(name) as u8,
+        signed: table.sign_of(name),
     }
 }
 
@@ -69,7 +95,7 @@ fn value_at(values: &[u128], name: usize) -> u128
 // Writes the inputs to the values of their names.
 fn set_inputs(
     design: &Module,
-    ports: InputPorts,
+    ports: PortNames,
     rst: bool,
     ce: bool,
     in_data: u128,
@@ -91,7 +117,7 @@ fn set_inputs(
 #[derive(Drop)]
 pub struct Sim<'a> {
     design: &'a Module,
-    ports: InputPorts,
+    ports: PortNames,
     table: ShapeTable,
     order: Vec<usize>,
     values: Vec<u128>,
@@ -150,7 +176,7 @@ impl<'a> Sim<'a> {
         ensures values { IfOk result (λ sim. HoldInitial design.now.signals.items initial.now sim.values) }
     {
         let count = design.names.len();
-        let ports = input_ports(design);
+        let ports = port_names(design);
         let table = table_of(alloc, design, count)?;
         let order = evaluation_order(alloc, design, count)?;
         let values = initial_values(alloc, design, initial)?;
@@ -197,5 +223,38 @@ impl<'a> Sim<'a> {
         ensures { (s : Signal) → slice_get self.now.design.signals.items signal ≡ Some s → result ≡ values_of self.now.values s.name }
     {
         value_at(self.values.as_slice(), self.design.signals[signal].name)
+    }
+
+    /// How `in_data` is declared.
+    pub fn input_shape(&self) -> PortShape
+        ensures width { result.width ≡ (shapes_of (design_view self.now.design)).width (ports_of (design_view self.now.design)).in_data }
+        ensures signed { result.signed ≡ (shapes_of (design_view self.now.design)).signed (ports_of (design_view self.now.design)).in_data }
+        ensures bits { IsDataWidth result.width }
+    {
+        shape_of(&self.table, self.design, self.ports.in_data)
+    }
+
+    /// How `out_data` is declared.
+    pub fn output_shape(&self) -> PortShape
+        ensures width { result.width ≡ (shapes_of (design_view self.now.design)).width (ports_of (design_view self.now.design)).out_data }
+        ensures signed { result.signed ≡ (shapes_of (design_view self.now.design)).signed (ports_of (design_view self.now.design)).out_data }
+        ensures bits { IsDataWidth result.width }
+    {
+        shape_of(&self.table, self.design, self.ports.out_data)
+    }
+
+    /// Whether `out_valid` isn't 0, as it was last settled.
+    pub fn is_valid(&self) -> bool
+        ensures { result ≡ not (values_of self.now.values (ports_of (design_view self.now.design)).out_valid == 0) }
+    {
+        value_at(self.values.as_slice(), self.ports.out_valid) != 0
+    }
+
+    /// The pattern of `out_data`, as it was last settled.
+    pub fn out_data(&self) -> u128
+        ensures value { result ≡ values_of self.now.values (ports_of (design_view self.now.design)).out_data }
+        ensures small { result < 2 ^ (shapes_of (design_view self.now.design)).width (ports_of (design_view self.now.design)).out_data }
+    {
+        value_at(self.values.as_slice(), self.ports.out_data)
     }
 }

@@ -1,5 +1,6 @@
 // A file of rows, in pieces.
 ghost use Rattle.std.specs.Prelude.{◌≡◌, ◌≤◌, ◌<◌, ◌-◌, ◌+◌, ◌^◌, ◌⊎◌, ℕ, List, [], ◌∷◌, ◌++◌, length, drop, take, true, Some, None, Ok, Err, slice_get, IfOk, IfErr, IfSome, IfNone, OnSome, OnOk};
+ghost use Rattle.std.specs.Option.{option_to_list};
 ghost use Rattle.sample_file.specs.Reading.{Place, start, rows_from, row_then, no_rows, refused};
 
 use crate::fault::LineFault;
@@ -63,6 +64,9 @@ impl Lines {
         ensures fields { self.new.fields ≡ self.old.fields }
         ensures fault { self.new.fault ≡ None }
         ensures row { IfOk result (λ found. OnSome found (byte ≡ 10)) }
+        ensures ended { IfOk result (λ found. self.old.ended + length (option_to_list found) ≤ self.new.ended) }
+        ensures more { self.old.ended ≤ self.new.ended }
+        ensures few { self.new.ended < 2 ^ 32 }
     {
         if self.ended + 1 >= LINES {
             return Err(LineFault::TooManyLines);
@@ -91,6 +95,9 @@ impl Lines {
         ensures fault { IfErr result (λ fault. self.new.fault ≡ Some fault) }
         ensures none { OnOk result (self.new.fault ≡ None) }
         ensures row { IfOk result (λ found. OnSome found (byte ≡ 10)) }
+        ensures ended { IfOk result (λ found. self.old.ended + length (option_to_list found) ≤ self.new.ended) }
+        ensures more { self.old.ended ≤ self.new.ended }
+        ensures few { self.new.ended < 2 ^ 32 }
     {
         let answer = self.add(byte);
         if let Err(fault) = answer {
@@ -107,6 +114,11 @@ impl Lines {
         ensures within { IfOk result (λ step. step.taken ≤ length piece.now) }
         ensures whole { IfOk result (λ step. IfNone step.found (step.taken ≡ length piece.now)) }
         ensures line { IfOk result (λ step. OnSome step.found ((0 < step.taken) × (slice_get piece.now (step.taken - 1) ≡ Some 10))) }
+
+        // There are never more rows than lines, of which there are fewer than 2^32.
+        ensures ended { IfOk result (λ step. self.old.ended + length (option_to_list step.found) ≤ self.new.ended) }
+        ensures more { self.old.ended ≤ self.new.ended }
+        ensures few { self.new.ended < 2 ^ 32 }
 
         ensures fault { IfErr result (λ fault. (rest : List ℕ) → rows_from self.old (piece.now ++ rest) ≡ refused fault) }
         ensures kept { IfErr result (λ fault. self.new.fault ≡ Some fault) }

@@ -1,5 +1,5 @@
 // Rows as samples and as cycles of a stimulus.
-ghost use Rattle.std.specs.Prelude.{◌≡◌, ◌≤◌, ◌<◌, ◌^◌, ◌-◌, unsigned_abs, pos, true, MatchOption};
+ghost use Rattle.std.specs.Prelude.{◌≡◌, ◌≤◌, ◌<◌, ◌^◌, ◌-◌, unsigned_abs, pos, true, IfOk, IfSome};
 ghost use Rattle.mr_values.specs.Width.{pattern};
 ghost use Rattle.sample_file.specs.Fields.{is_held};
 ghost use Rattle.sample_file.specs.Ranges.{sample_of, stimulus_of, flag_of, pattern_of, is_unsigned};
@@ -44,7 +44,8 @@ fn is_unsigned(width: u8, number: i128) -> bool
 fn pattern(width: u8, number: i128) -> u128
     requires most { width ≤ 127 }
     requires small { unsigned_abs number < 2 ^ width }
-    ensures { result ≡ pattern width number }
+    ensures value { result ≡ pattern width number }
+    ensures small { result < 2 ^ width }
 {
     if number < 0 {
         span(width) - number.unsigned_abs()
@@ -81,7 +82,8 @@ fn flag_of(number: i128) -> Option<bool>
 fn pattern_of(width: u8, signed: bool, number: i128) -> Option<u128>
     requires least { 1 ≤ width }
     requires most { width ≤ 127 }
-    ensures { result ≡ pattern_of width signed number }
+    ensures value { result ≡ pattern_of width signed number }
+    ensures small { IfSome result (λ bits. bits < 2 ^ width) }
 {
     let fits = if signed {
         is_held(width, number)
@@ -100,7 +102,8 @@ fn pattern_of(width: u8, signed: bool, number: i128) -> Option<u128>
 pub fn stimulus_of(row: &Row, width: u8, signed: bool) -> Result<Stimulus, LineFault>
     requires least { 1 ≤ width }
     requires most { width ≤ 127 }
-    ensures { result ≡ stimulus_of width signed row.now }
+    ensures value { result ≡ stimulus_of width signed row.now }
+    ensures small { IfOk result (λ stimulus. stimulus.in_data < 2 ^ width) }
 {
     let [rst, ce, in_data] = row.values;
     match (

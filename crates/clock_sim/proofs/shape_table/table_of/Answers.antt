@@ -1,4 +1,3 @@
-use Rattle.std.proofs.Common.{◌≡◌, ◌∙◌, sym}
 use Rattle.clock_sim.proofs.Tables.{table_next}
 use Rattle.clock_sim.proofs.shape_table.table_of.Goals as goal
 

@@ -1,10 +1,9 @@
-use Rattle.std.proofs.Common.{◌≡◌, ◌<◌, ◌≤◌, ◌+◌, ◌∙◌, ℕ, List, length, get_or, set, true, false, sym, ap, subst, arith}
-use Rattle.std.specs.Prelude.{Vec}
-use Rattle.std.proofs.lemmas.List.{length-set, take_at}
+use Rattle.std.proofs.Common.{◌<◌, ◌∙◌, ℕ, List, length, get_or, set, sym, ap, subst}
+use Rattle.std.proofs.lemmas.List.{take_at}
 use Rattle.verilog_tree.specs.declared.tree.Signal.{Signal}
 use Rattle.verilog_tree.specs.Names.{shapes_of}
 use Rattle.verilog_tree.specs.View.{design_view}
-use Rattle.clock_sim.proofs.Start.{IsStarted, unchanged, write_turn, blank, item_is, started, zeros, start_skips, start_past, start_writes, all_started}
+use Rattle.clock_sim.proofs.Start.{unchanged, write_turn, blank, item_is, start_skips, start_past}
 use Rattle.clock_sim.proofs.sim.initial_values.Goals.{then-is_register+then-next-initial, else-is_register, else-is_register-via-then-is_register+else-next-initial, else-is_register-via-else-is_register}
 use Rattle.clock_sim.proofs.sim.initial_values.Goals as goal
 

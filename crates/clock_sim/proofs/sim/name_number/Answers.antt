@@ -1,4 +1,4 @@
-use Rattle.std.proofs.Common.{◌≡◌, ◌∙◌, ◌<◌, ◌≤◌, ℕ, List, length, get_or, true, false, sym, ap, subst, arith, []}
+use Rattle.std.proofs.Common.{◌∙◌, ◌<◌, ℕ, List, length, sym, ap, subst, arith}
 use Rattle.std.specs.Prelude.{bytes_eq}
 use Rattle.verilog_tree.specs.View.{design_view}
 use Rattle.clock_sim.proofs.PortPlaces.{first_here, first_none, name_read}

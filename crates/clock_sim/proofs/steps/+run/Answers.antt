@@ -1,6 +1,5 @@
-use Rattle.std.proofs.Common.{◌≡◌, ◌∙◌, ◌<◌, ◌+◌, ℕ, List, length, set, drop, rules, arith, sym, ap, subst}
+use Rattle.std.proofs.Common.{◌∙◌, ◌+◌, ℕ, List, length, set, drop, rules, arith, sym, ap, subst}
 use Rattle.std.specs.Prelude.{IsTrue, nat_lt, ◌&&◌}
-use Rattle.std.proofs.lemmas.List.{length-set}
 use Rattle.verilog_tree.specs.declared.tree.Stmt.{Stmt, the_lemmas}
 use Rattle.verilog_tree.specs.Tree as tree
 use Rattle.verilog_tree.specs.Tree.{Action, Actions}

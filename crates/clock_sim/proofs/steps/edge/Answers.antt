@@ -1,4 +1,4 @@
-use Rattle.std.proofs.Common.{◌≡◌, ◌∙◌, ℕ, List, length, map, sym, ap, subst, refl}
+use Rattle.std.proofs.Common.{ℕ, List, length, sym, subst, refl}
 use Rattle.std.specs.Prelude.{IsTrue}
 use Rattle.verilog_tree.specs.declared.tree.Stmt.{Stmt}
 use Rattle.verilog_tree.specs.Names.{shapes_of}

@@ -1,6 +1,6 @@
-use Rattle.std.proofs.Common.{◌≡◌, ◌∙◌, ℕ, Bool, not, subst, sym, ap}
-use Rattle.std.specs.Prelude.{IsTrue, ◌==◌}
-use Rattle.verilog_tree.specs.Meaning.{Shapes, FitNames, fits, alone}
+use Rattle.std.proofs.Common.{subst, sym}
+use Rattle.std.specs.Prelude.{IsTrue}
+use Rattle.verilog_tree.specs.Meaning.{Shapes, FitNames, fits}
 use Rattle.verilog_tree.specs.View.{tree_view}
 use Rattle.clock_sim.specs.Simulated.{values_of}
 use Rattle.clock_sim.proofs.steps.holds.Goals as goal

@@ -1,14 +1,11 @@
-use Rattle.std.proofs.Common.{◌≡◌, ℕ, List, ◌<◌, ◌+◌, ◌∙◌, ap, sym, get_or, set, length, subst, arith}
-use Rattle.std.specs.Prelude.{IsTrue}
-use Rattle.std.proofs.lemmas.List.{length-set, length-map}
+use Rattle.std.proofs.Common.{ℕ, List, ◌<◌, ◌+◌, ◌∙◌, ap, sym, get_or, length, subst}
+use Rattle.std.proofs.lemmas.List.{length-set}
 use Rattle.verilog_tree.specs.declared.tree.Assign.{Assign}
-use Rattle.verilog_tree.specs.declared.tree.Module.{Module}
 use Rattle.verilog_tree.specs.Meaning.{FitNames}
 use Rattle.verilog_tree.specs.Names.{shapes_of}
 use Rattle.verilog_tree.specs.Cycle.{circuit_of}
 use Rattle.verilog_tree.specs.View.{design_view, assignment_view}
 use Rattle.verilog_tree.proofs.OneSettling.{circuit_sound}
-use Rattle.settle_order.specs.Placing.{IsEvaluationOrder}
 use Rattle.clock_sim.specs.Simulated.{values_of, IsSettledTo}
 use Rattle.clock_sim.proofs.Simulated.{settle_turn, names_turn, settled_all, ordered_assign}
 use Rattle.clock_sim.proofs.steps.settle.Goals as goal

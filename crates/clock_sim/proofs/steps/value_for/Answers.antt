@@ -1,4 +1,4 @@
-use Rattle.std.proofs.Common.{◌≡◌, ◌^◌, ◌<◌, ◌∙◌, ℕ, subst, sym, ap}
+use Rattle.std.proofs.Common.{◌^◌, ◌<◌, ◌∙◌, subst, sym, ap}
 use Rattle.std.specs.Prelude.{IsTrue}
 use Rattle.verilog_tree.specs.Meaning.{Shapes, FitNames, IsFitting, fits, assigned}
 use Rattle.verilog_tree.specs.View.{tree_view}

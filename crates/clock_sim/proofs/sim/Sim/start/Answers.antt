@@ -1,4 +1,4 @@
-use Rattle.std.proofs.Common.{◌≡◌, ◌∙◌, ◌<◌, ℕ, length, sym, subst, ap, arith}
+use Rattle.std.proofs.Common.{ℕ, sym, subst, arith}
 use Rattle.std.specs.Prelude.{IsTrue}
 use Rattle.verilog_tree.specs.Names.{shapes_of}
 use Rattle.verilog_tree.specs.View.{design_view}
@@ -6,7 +6,7 @@ use Rattle.module_laws.proofs.Levels.{loop_free}
 use Rattle.module_laws.proofs.Passing.{passing_driven}
 use Rattle.clock_sim.specs.Simulated.{AssignsFit, blocks_fit}
 use Rattle.clock_sim.specs.Sim.{ArePorts}
-use Rattle.clock_sim.proofs.Formed.{are_named, assigns_fit, blocks_all_fit}
+use Rattle.clock_sim.proofs.Formed.{assigns_fit, blocks_all_fit}
 use Rattle.clock_sim.proofs.sim.Sim.start.Goals as goal
 
 pub evaluation_order-requires-clause-driven : goal.evaluation_order-requires-clause-driven
@@ -24,7 +24,7 @@ invariant_of-result c =
       tells = c.in_ok-table.ensures;
       assigns = subst (AssignsFit d) (sym many) (assigns_fit d c.requires.sound.formed c.requires.sound.passes);
       blocks = subst (λ (n : ℕ). IsTrue (blocks_fit (shapes_of d) n d.blocks)) (sym many) (blocks_all_fit d c.requires.sound.formed c.requires.sound.passes);
-      inputs = subst (λ (n : ℕ). ArePorts d n c.input_ports-ports.result) (sym many) c.input_ports-ports.ensures;
+      inputs = subst (λ (n : ℕ). ArePorts d n c.port_names-ports.result) (sym many) c.port_names-ports.ensures;
       evaluation = c.in_ok-order.ensures.order;
       names = c.in_ok-values.ensures.names;
       sizes = omega (arith, c.in_ok-staged.ensures.len, c.in_ok-staged.staged.ok, c.len-count.ensures, c.args.design.now.names.ok, many);

@@ -1,4 +1,4 @@
-use Rattle.std.proofs.Common.{◌≡◌, ◌++◌, ℕ, List, drop, None}
+use Rattle.std.proofs.Common.{◌≡◌, ◌≤◌, ◌<◌, ◌^◌, ◌++◌, ℕ, List, drop, None}
 use Rattle.sample_file.specs.Reading.{rows_from}
 use Rattle.sample_file.proofs.lines.Lines.take.Given as goal
 
@@ -6,5 +6,7 @@ abbrev pub invariant-loop-index : goal.invariant-loop-index
 invariant-loop-index l = record {
   rows : (rest : List ℕ) → rows_from l.initial.self (l.piece ++ rest) ≡ rows_from l.self (drop l.index l.piece ++ rest);
   fault : l.self.fault ≡ None;
+  ended : l.initial.self.ended ≤ l.self.ended;
+  few : l.self.ended < 2 ^ 32;
   fields : l.self.fields ≡ l.initial.self.fields;
 }

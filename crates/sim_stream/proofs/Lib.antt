@@ -1,0 +1,3 @@
+pub mod CycleSteps
+pub mod SignSteps
+pub mod StreamSteps

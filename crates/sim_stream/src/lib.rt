@@ -1,0 +1,9 @@
+//! A simulation of a stimulus that comes in pieces: the printed list of what a module shows.
+#![tactic(auto)]
+
+mod cycle;
+mod fault;
+mod stream;
+
+pub use fault::StreamFault;
+pub use stream::SimStream;
