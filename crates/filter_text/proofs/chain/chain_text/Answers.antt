@@ -22,12 +22,12 @@ if_ok P Q f (Ok x) h = f x h
 if_ok P Q f (Err e) h = tt
 
 pub module_of-requires-clause-writable : goal.module_of-requires-clause-writable
-module_of-requires-clause-writable c = chain_writable c.in_ok-built.ensures (narrow_plan c.args.plan.now c.requires.accepted)
+module_of-requires-clause-writable c = chain_writable c.in_ok-built.ensures.chain (narrow_plan c.args.plan.now c.requires.accepted)
 
 pub text_of-requires : goal.text_of-requires
 text_of-requires c =
     subst (λ (d : Design). IsWritable limits d) (sym c.in_ok-module.ensures)
-    (has_text c.in_ok-built.built.net c.in_ok-built.ensures.netlist (chain_writable c.in_ok-built.ensures (narrow_plan c.args.plan.now c.requires.accepted)) c.nets_are_small.ensures)
+    (has_text c.in_ok-built.built.net c.in_ok-built.ensures.chain.netlist (chain_writable c.in_ok-built.ensures.chain (narrow_plan c.args.plan.now c.requires.accepted)) c.nets_are_small.ensures)
 
 pub returns : goal.returns
 returns c =
@@ -35,7 +35,7 @@ returns c =
     let T = size c.args.plan.now.ticks in
     let es = c.args.plan.now.elements in
     let cells = c.in_ok-built.built.net in
-    let net = c.in_ok-built.ensures in
+    let net = c.in_ok-built.ensures.chain in
     let can = chain_writable net (narrow_plan c.args.plan.now c.requires.accepted) in
     let same = c.text_of.ensures.same (subst (λ (d : Design). IsInOrder d) (sym c.in_ok-module.ensures) (in_order cells net.netlist can)) in
     if_ok _ _
