@@ -7,3 +7,4 @@ pub mod ChainShows
 pub mod OutputNumber
 pub mod UncutPlaces
 pub mod UncutOutput
+pub mod CountedText

@@ -1,11 +1,12 @@
 -- What the text of a plan has to show: each value of the chain at its tick, and nothing at any other tick.
 use Rattle.std.specs.Prelude.{◌≡◌, ℕ, zero, suc, ◌+◌, ◌-◌, ◌*◌, true, List, [], ◌∷◌, ◌++◌, length, map, take, drop, codes, Some, slice_get, ℤ, pos}
 use Rattle.mr_values.specs.Width.{signed, IsLeastWidth}
-use Rattle.mr_values.specs.Timing.{ceil_div, groups, last_stream}
+use Rattle.mr_values.specs.Timing.{Group, ceil_div, groups, last_stream}
 use Rattle.mr_values.specs.Sequence.{phase}
 use Rattle.mr_values.specs.Value.{val}
 use Rattle.mr_values.specs.declared.plan.Element.{Element}
 use Rattle.verilog_tree.specs.Checks.{Passes}
+use Rattle.verilog_tree.specs.Counted.{counted}
 use Rattle.verilog_tree.specs.Meaning.{Values}
 use Rattle.module_laws.specs.Running.{HasRuns}
 use Rattle.verilog_tree.specs.Names.{shapes_of, number_of}
@@ -14,7 +15,9 @@ use Rattle.verilog_tree.specs.Tree.{Design}
 use Rattle.verilog_tree.specs.Uncut.{Numbers, IsUncutRun, number_at}
 use Rattle.verilog_text.specs.Reading.{Reads}
 use Rattle.net_module.specs.Steps.{HasNoReset, tick_data, ticks_in, pair_of}
+use Rattle.chain_build.specs.Added.{HasFacts}
 use Rattle.chain_build.specs.Built.{ArePlainGroups}
+use Rattle.stage_law.specs.Facts.{StageFacts}
 
 -- output n stands at the tick latency + n * period: so many outputs from one on, each with its tick
 abbrev pub outputs_from : ℕ → ℕ → (ℕ → ℤ) → ℕ → ℕ → List (ℕ × ℤ)
@@ -68,8 +71,19 @@ pub record KeepsOutput (elements : List Element) (width ticks latency period : �
       → (n j : ℕ) (now : Numbers) → slice_get uncut (suc j) ≡ Some now → ticks_in (take j after) ≡ latency + n * period
       → now (output_register d) ≡ val elements (samples_in width ticks after) (pos n)
 
+-- counted in the module's statements, the group of this number costs what the plan's group costs as a stage
+pub record IsCounted (g : Group) (number : ℕ) (d : Design) : Type 0 where
+  pub facts : StageFacts
+  pub has_facts : HasFacts g facts
+  pub counts : counted d number ≡ record { adders = facts.adders; windows = facts.windows; tables = facts.tables }
+
+-- so do the groups, numbered from here
+abbrev pub AreCounted : ℕ → List Group → Design → Type 0
+AreCounted number [] d = Unit {0}
+AreCounted number (g ∷ gs) d = IsCounted g number d × AreCounted (number + 1) gs d
+
 -- the bytes read as one module, it passes every check, from any content it runs over any cycles, its output has the least width for the
--- span of the last stream, and it shows the chain; where no group rounds, its output register is never cut
+-- span of the last stream, and it shows the chain, and its groups cost what they cost as stages; where no group rounds, its output register is never cut
 pub record IsTextOf (elements : List Element) (width ticks latency period : ℕ) (bytes : List ℕ) : Type 0 where
   pub design : Design
   pub reads : Reads bytes design
@@ -79,3 +93,4 @@ pub record IsTextOf (elements : List Element) (width ticks latency period : ℕ)
   pub output : IsLeastWidth (last_stream width ticks elements).low (last_stream width ticks elements).high ((shapes_of design).width (ports_of design).out_data)
   pub shows : ShowsChain elements width ticks latency period design
   pub uncut : ArePlainGroups (groups elements) → KeepsOutput elements width ticks latency period design
+  pub costs : AreCounted 1 (groups elements) design

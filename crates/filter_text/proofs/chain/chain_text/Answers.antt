@@ -14,6 +14,8 @@ use Rattle.filter_text.proofs.ChainLimits.{narrow_plan, wide_plan, some_ticks}
 use Rattle.filter_text.proofs.ChainPlaces.{chain_writable, output_wide}
 use Rattle.filter_text.proofs.ChainShows.{chain_shows}
 use Rattle.filter_text.proofs.UncutOutput.{keeps_output}
+use Rattle.plan_laws.proofs.Passes.{passes_of}
+use Rattle.filter_text.proofs.CountedText.{chain_counted}
 use Rattle.filter_text.proofs.ReadModules.{passing, running, output_width}
 use Rattle.filter_text.proofs.chain.chain_text.Goals as goal
 
@@ -55,5 +57,6 @@ returns c =
           subst (λ (p : ℕ). KeepsOutput es W T c.args.facts.now.latency p read.0) (sym c.requires.are_facts.period_is)
           (subst (λ (l : ℕ). KeepsOutput es W T l (last_stream W T es).period read.0) (sym c.requires.are_facts.latency_is)
           (keeps_output (wide_plan c.args.plan.now c.requires.accepted) (narrow_plan c.args.plan.now c.requires.accepted) (some_ticks c.args.plan.now c.requires.accepted) net read.0 as_written plain));
+      costs = chain_counted es c.in_ok-built.built.costs.items cells (passes_of c.args.plan.now c.requires.accepted).limits.few net.netlist c.nets_are_small.ensures c.in_ok-built.ensures.costs read.0 as_written;
     })
     c.text_of.result same

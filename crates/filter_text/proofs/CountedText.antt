@@ -1,0 +1,122 @@
+-- What the groups of a plan cost, counted in the module that is read.
+use Rattle.std.proofs.Common.{◌≡◌, ℕ, zero, suc, ◌+◌, ◌<◌, ◌≤◌, ◌^◌, Bool, true, cond, List, [], ◌∷◌, length, map, Option, None, Some, slice_get, refl, sym, ◌∙◌, ap, arith}
+use Rattle.std.specs.Prelude.{◌&&◌, count_by, ℤ}
+use Rattle.std.proofs.lemmas.Bool.{eq-eqb}
+use Rattle.std.proofs.lemmas.List.Sums.{sum_by-cons}
+use Rattle.std.proofs.lemmas.Option.{slice_get_within}
+use Rattle.mr_values.specs.declared.plan.Element.{Element}
+use Rattle.mr_values.specs.declared.plan.Element.TheVariants.{Up, Down, Filter, CicDown, CicUp, Round}
+use Rattle.mr_values.specs.declared.plan.Form.{Form}
+use Rattle.mr_values.specs.Timing.{Group, Fir, DownCic, UpCic, Rounding, join_up, join_filter, groups}
+use Rattle.mr_values.specs.Value.{size}
+use Rattle.net_graph.specs.declared.cell.Cell.{Cell}
+use Rattle.net_graph.specs.declared.name.Name.{Name}
+use Rattle.net_graph.specs.Count.{total, table, tables_in, is_table, has_kind, one_if}
+use Rattle.net_graph.specs.WellFormed.{IsNetlist}
+use Rattle.net_module.specs.Written.{written_module}
+use Rattle.net_text.specs.Small.{AreSmall}
+use Rattle.module_costs.specs.Counting.{HasPlainTables, CountsAs}
+use Rattle.module_costs.proofs.Sums.{counts_as}
+use Rattle.stage_law.specs.declared.stage.Cost.{Cost}
+use Rattle.verilog_tree.specs.declared.tree.Signal.{Signal}
+use Rattle.verilog_tree.specs.Tree.{Design}
+use Rattle.verilog_tree.specs.Names.{text_of, is_window, is_table as is_table_name}
+use Rattle.verilog_tree.specs.Counted.{counted, is_reg, is_wire, adders_of, in_group}
+use Rattle.verilog_text.specs.Order.{IsSameButPlaces, unplaced}
+use Rattle.chain_build.specs.GroupCosts.{AreCostsOf, HasCosts}
+use Rattle.filter_text.specs.Headline.{AreCounted}
+
+-- ---- no table
+
+total_at : (count : Cell → ℕ) (cells : List Cell) (place : ℕ) (cell : Cell) → slice_get cells place ≡ Some cell → count cell ≤ total count cells
+total_at count [] place cell at = absurd (omega (arith, slice_get_within {A = Cell} [] place cell at))
+total_at count (x ∷ cells) zero cell at = let is : x ≡ cell = cc in let e = ap count is in omega (arith, e)
+total_at count (x ∷ cells) (suc place) cell at = omega (arith, total_at count cells place cell at)
+
+-- where no group has a table, no node is named as one
+plain_tables : (cells : List Cell) → ((group : ℕ) → tables_in group cells ≡ 0) → HasPlainTables cells
+plain_tables cells none = record {
+  no_adder = λ place cell name at named is. absurd (never place cell name at named is);
+  no_input = λ place cell name at named is. absurd (never place cell name at named is);
+}
+  where
+    never : (place : ℕ) (cell : Cell) (name : Name) → slice_get cells place ≡ Some cell → cell.name ≡ Some name → is_table name.kind ≡ true → ⊥
+    never place cell name at named is =
+        let one : table name.group cell ≡ 1 = ap (λ (o : Option Name). one_if (has_kind is_table name.group o)) named ∙ (rw (eq-eqb name.group name.group refl, is) refl) in
+        omega (arith, one, none name.group, total_at (table name.group) cells place cell at)
+
+-- ---- places change no count
+
+same_any : (test : Signal → Bool) → ((s : Signal) → test (unplaced s) ≡ test s) → (ss : List Signal) → count_by test (map unplaced ss) ≡ count_by test ss
+same_any test same [] = refl
+same_any test same (s ∷ ss) =
+    sum_by-cons _ (unplaced s) (map unplaced ss) ∙ (λ i. cond (same s i) 1 0 + same_any test same ss i) ∙ sym (sum_by-cons _ s ss)
+
+same_counts : (d e : Design) → IsSameButPlaces d e → (group : ℕ) → counted d group ≡ counted e group
+same_counts d e same group i = record {
+  adders = same_adders i;
+  windows = same_windows i;
+  tables = same_tables i;
+}
+  where
+    same_adders : adders_of d (in_group d group) ≡ adders_of e (in_group e group)
+    same_adders = rw (same.same_names, same.same_assigns, same.same_blocks) refl
+
+    same_windows : count_by (λ s. is_reg s.kind && is_window group (text_of d s.name)) d.signals ≡ count_by (λ s. is_reg s.kind && is_window group (text_of e s.name)) e.signals
+    same_windows =
+        rw same.same_names (sym (same_any (λ s. is_reg s.kind && is_window group (text_of e s.name)) (λ s. refl) d.signals))
+        ∙ ap (count_by (λ s. is_reg s.kind && is_window group (text_of e s.name))) same.same_signals ∙ same_any (λ s. is_reg s.kind && is_window group (text_of e s.name)) (λ s. refl) e.signals
+
+    same_tables : count_by (λ s. is_wire s.kind && is_table_name group (text_of d s.name)) d.signals ≡ count_by (λ s. is_wire s.kind && is_table_name group (text_of e s.name)) e.signals
+    same_tables =
+        rw same.same_names (sym (same_any (λ s. is_wire s.kind && is_table_name group (text_of e s.name)) (λ s. refl) d.signals))
+        ∙ ap (count_by (λ s. is_wire s.kind && is_table_name group (text_of e s.name))) same.same_signals ∙ same_any (λ s. is_wire s.kind && is_table_name group (text_of e s.name)) (λ s. refl) e.signals
+
+-- ---- as many groups as elements at most
+
+few_up : (factor : ℕ) (gs : List Group) → length (join_up factor gs) ≤ suc (length gs)
+few_up factor [] = omega arith
+few_up factor (Fir None f down ∷ gs) = omega arith
+few_up factor (Fir (Some u) f down ∷ gs) = omega arith
+few_up factor (DownCic other stages delay ∷ gs) = omega arith
+few_up factor (UpCic other stages delay ∷ gs) = omega arith
+few_up factor (Rounding shift mode ∷ gs) = omega arith
+
+few_filter : (taps : List ℤ) (form : Form) (gs : List Group) → length (join_filter taps form gs) ≤ suc (length gs)
+few_filter taps form [] = omega arith
+few_filter taps form (Fir None None down ∷ gs) = omega arith
+few_filter taps form (Fir None (Some f) down ∷ gs) = omega arith
+few_filter taps form (Fir (Some u) None down ∷ gs) = omega arith
+few_filter taps form (Fir (Some u) (Some f) down ∷ gs) = omega arith
+few_filter taps form (DownCic factor stages delay ∷ gs) = omega arith
+few_filter taps form (UpCic factor stages delay ∷ gs) = omega arith
+few_filter taps form (Rounding shift mode ∷ gs) = omega arith
+
+few_groups : (es : List Element) → length (groups es) ≤ length es
+few_groups [] = omega arith
+few_groups (Up factor ∷ es) = omega (arith, few_up (size factor) (groups es), few_groups es)
+few_groups (Down factor ∷ es) = omega (arith, few_groups es)
+few_groups (Filter taps form ∷ es) = omega (arith, few_filter taps form (groups es), few_groups es)
+few_groups (CicDown factor stages delay ∷ es) = omega (arith, few_groups es)
+few_groups (CicUp factor stages delay ∷ es) = omega (arith, few_groups es)
+few_groups (Round shift mode ∷ es) = omega (arith, few_groups es)
+
+-- ---- the groups of a plan
+
+module _ (cells : List Cell) (counts : CountsAs cells) (d : Design) (same : IsSameButPlaces d (written_module cells)) where
+  are_counted : (number : ℕ) (gs : List Group) (costs : List Cost) → 1 ≤ number → number + length gs < 2 ^ 64 → AreCostsOf number gs costs cells → AreCounted number gs d
+  are_counted number [] costs some low are = tt
+  are_counted number (g ∷ gs) [] some low are = absurd are
+  are_counted number (g ∷ gs) (c ∷ costs) some low are = (
+    record {
+      facts = are.0.facts;
+      has_facts = are.0.has_facts;
+      counts = same_counts d (written_module cells) same number ∙ counts.each number some (omega (arith, low))
+          ∙ (λ i. record { adders = are.0.adders_in i; windows = are.0.windows_in i; tables = are.0.tables_in i });
+    },
+    are_counted (number + 1) gs costs (omega arith) (omega (arith, low)) are.1
+  )
+
+pub chain_counted : (es : List Element) (costs : List Cost) (cells : List Cell) → length es ≤ 32 → IsNetlist cells → AreSmall cells → HasCosts (groups es) costs cells → (d : Design) → IsSameButPlaces d (written_module cells) → AreCounted 1 (groups es) d
+chain_counted es costs cells few netlist small has d same =
+    are_counted cells (counts_as cells netlist small (plain_tables cells has.no_tables.none)) d same 1 (groups es) costs (omega arith) (let g = few_groups es in omega (arith, g, few)) has.costs_are
