@@ -1,3 +1,4 @@
+pub mod InDepth
 pub mod Opened
 pub mod Placing
 pub mod Turns

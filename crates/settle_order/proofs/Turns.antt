@@ -15,7 +15,7 @@ use Rattle.verilog_tree.specs.Cycle.{circuit_of, driver_of, IsDrivenOnce, IsLoop
 use Rattle.settle_order.specs.Placing.{IsEvaluationOrder, reads_open, opened_of, count_open, IsPlaced, IsStuck, AreAllOpen}
 use Rattle.verilog_tree.proofs.OneSettling.{assign_at, circuit_sound, circuit_loop_free}
 use Rattle.settle_order.proofs.Placing.{place_one, all_placed, not_both}
-use Rattle.settle_order.proofs.Opened.{same_some, closed, flags_set, flags_closed, open_within, fewer_open, reads_open_tells}
+use Rattle.settle_order.proofs.Opened.{same_some, flags_set, flags_closed, open_within, fewer_open, reads_open_tells}
 
 pub driver_at : (m : Design) (k : ℕ) (a : Assignment) → slice_get m.assigns k ≡ Some a → slice_get (circuit_of m).drivers k ≡ Some (driver_of (shapes_of m) a)
 driver_at m k a at = slice_get-map (driver_of (shapes_of m)) m.assigns k ∙ ap (option_map (driver_of (shapes_of m))) at

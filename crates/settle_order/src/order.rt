@@ -5,6 +5,7 @@ ghost use Rattle.verilog_tree.specs.Cycle.{circuit_of, IsDrivenOnce, IsLoopFree}
 ghost use Rattle.verilog_tree.specs.View.{tree_view, trees_view, design_view};
 ghost use Rattle.settle_order.specs.Placing.{IsEvaluationOrder, AreNamed, reads_open, any_reads_open, opened_of, count_open, IsPlaced, IsStuck, AreAllOpen};
 
+use crate::depth::place_in_depth;
 use mr_values::Memory;
 use std::alloc::Global;
 use verilog_tree::{Expr, Module};
@@ -103,6 +104,7 @@ pub fn place_all(alloc: Global, design: &Module, count: usize) -> Result<Placed,
 {
     let mut opened = driven(alloc, design, count)?;
     let mut order = Vec::new(alloc);
+    place_in_depth(alloc, design, &mut opened, &mut order)?;
     let mut progress = true;
     while progress {
         progress = place_ready(design, &mut opened, &mut order)?;
