@@ -4,4 +4,4 @@ mod PrintSteps
 mod Refusals
 mod TapSteps
 mod TappedSteps
-mod OneAnswer
+pub mod OneAnswer

@@ -1,5 +1,5 @@
 -- A plan with other taps in one of its filters.
-use Rattle.std.specs.Prelude.{ℕ, zero, suc, ◌-◌, ℤ, List, [], ◌∷◌}
+use Rattle.std.specs.Prelude.{ℕ, zero, suc, ℤ, List, [], ◌∷◌}
 use Rattle.mr_values.specs.declared.plan.Element.{Element}
 use Rattle.mr_values.specs.declared.plan.Element.TheVariants.{Up, Down, Filter, CicDown, CicUp, Round}
 use Rattle.mr_values.specs.declared.plan.Plan.{Plan}
@@ -20,5 +20,9 @@ tapped_at zero taps (e ∷ es) = tapped taps e ∷ es
 tapped_at (suc place) taps (e ∷ es) = e ∷ tapped_at place taps es
 
 -- other taps in the element of this number, counted from 1
+abbrev pub tapped_number : ℕ → List ℤ → List Element → List Element
+tapped_number zero taps es = es
+tapped_number (suc place) taps es = tapped_at place taps es
+
 abbrev pub plan_tapped : ℕ → List ℤ → Plan → Plan
-plan_tapped element taps plan = record { width = plan.width; ticks = plan.ticks; elements = tapped_at (element - 1) taps plan.elements }
+plan_tapped element taps plan = record { width = plan.width; ticks = plan.ticks; elements = tapped_number element taps plan.elements }

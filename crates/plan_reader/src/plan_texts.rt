@@ -1,5 +1,5 @@
 // What a plan file says.
-use crate::tapped::set_taps_at;
+use crate::tapped::set_taps_of;
 use mr_values::{Elements, Plan, Text};
 use std::marker::Model;
 use std::mem;
@@ -50,18 +50,17 @@ pub struct PlanText {
 }
 
 impl PlanText {
-    ghost use Rattle.std.specs.Prelude.{◌≡◌, ◌≤◌};
+    ghost use Rattle.std.specs.Prelude.{◌≡◌};
     ghost use Rattle.plan_reader.specs.Tapped.{plan_tapped};
 
     /// Puts the taps of a file into its element, counted from 1. Leaves all as it is where the element is no filter.
     pub fn set_taps(&mut self, element: u32, taps: Vec<i64>)
-        requires { 1 ≤ element }
         ensures plan { self.new.plan ≡ plan_tapped element taps.items self.old.plan }
         ensures files { self.new.files ≡ self.old.files }
     {
         let none = Elements::from_vec(Vec::new(*taps.allocator()));
         let mut elements = mem::replace(&mut self.plan.elements, none).into_vec();
-        set_taps_at(&mut elements, element as usize - 1, taps);
+        set_taps_of(&mut elements, element, taps);
         self.plan.elements = Elements::from_vec(elements);
     }
 }
