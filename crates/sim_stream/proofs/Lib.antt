@@ -1,3 +1,4 @@
 pub mod CycleSteps
 pub mod SignSteps
 pub mod StreamSteps
+pub mod StartSteps
