@@ -2,3 +2,4 @@ pub mod CycleSteps
 pub mod SignSteps
 pub mod StreamSteps
 pub mod StartSteps
+pub mod Whole
