@@ -1,13 +1,12 @@
 -- A cycle before others.
-use Rattle.std.proofs.Common.{◌≡◌, ◌∙◌, ℕ, suc, ◌+◌, ◌-◌, ◌<◌, ◌≤◌, ◌^◌, Bool, true, false, cond, ℤ, pos, List, [], ◌∷◌, ◌++◌, map, Option, Some, None, Result, Ok, Err, FitsSigned, refl, sym, ap, subst, append_assoc, arith}
-use Rattle.std.specs.Int.{w128}
+use Rattle.std.proofs.Common.{◌≡◌, ◌∙◌, ℕ, ◌+◌, Bool, List, [], ◌∷◌, ◌++◌, map, Option, Result, Ok, refl, sym, ap, subst, append_assoc}
 use Rattle.std.proofs.Math.Path.{fun_ext}
 use Rattle.verilog_tree.specs.Tree.{Design}
 use Rattle.verilog_tree.specs.Meaning.{Values}
 use Rattle.verilog_tree.specs.Names.{shapes_of}
-use Rattle.verilog_tree.specs.Circuit.{IsSettling, with_inputs, next, IsRun}
+use Rattle.verilog_tree.specs.Circuit.{IsSettling, with_inputs, next}
 use Rattle.verilog_tree.specs.Cycle.{circuit_of}
-use Rattle.verilog_tree.specs.Shown.{Cycle, Event, RunsOver, inputs_of, ports_of, event_of, events_of, ticks_after}
+use Rattle.verilog_tree.specs.Shown.{Event, RunsOver, inputs_of, ports_of, event_of, ticks_after}
 use Rattle.sample_file.specs.declared.fault.LineFault.{LineFault}
 use Rattle.sample_file.specs.declared.ranges.Stimulus.{Stimulus}
 use Rattle.sample_file.specs.declared.row.Row.{Row}

@@ -1,3 +1,5 @@
 pub mod CycleSteps
 pub mod SignSteps
 pub mod StreamSteps
+pub mod StartSteps
+pub mod Whole

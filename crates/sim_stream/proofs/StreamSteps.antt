@@ -1,18 +1,19 @@
 -- A simulation row by row.
-use Rattle.std.proofs.Common.{◌≡◌, ◌∙◌, ℕ, ◌+◌, List, [], ◌∷◌, ◌++◌, drop, Option, Some, None, Result, Ok, Err, refl, sym, ap, subst, append_assoc, append-nil}
+use Rattle.std.proofs.Common.{◌≡◌, ◌∙◌, ℕ, zero, suc, ◌+◌, arith, zero-add, List, [], ◌∷◌, ◌++◌, drop, Option, Some, None, Result, Ok, Err, refl, sym, ap, subst, append_assoc, append-nil}
+use Rattle.std.proofs.Math.Seq.{drop-nil}
 use Rattle.verilog_tree.specs.declared.tree.Module.{Module}
 use Rattle.verilog_tree.specs.View.{design_view}
 use Rattle.sample_file.specs.declared.fault.LineFault.{LineFault}
 use Rattle.sample_file.specs.declared.ranges.Stimulus.{Stimulus}
 use Rattle.sample_file.specs.declared.row.Row.{Row}
-use Rattle.sample_file.specs.Reading.{Place, Reading, rows_from, row_then, refused}
-use Rattle.sample_file.specs.Ranges.{Checked, item_then}
+use Rattle.sample_file.specs.Reading.{Place, Reading, rows_from, row_then, no_rows, refused}
+use Rattle.sample_file.specs.Ranges.{item_then}
 use Rattle.clock_sim.specs.Simulated.{values_of}
 use Rattle.sim_stream.specs.declared.fault.StreamFault.{StreamFault}
 use Rattle.sim_stream.specs.declared.fault.StreamFault.TheVariants.{Line, Memory}
 use Rattle.sim_stream.specs.Given.{Gives, cycles_for}
 use Rattle.sim_stream.specs.Stream.{Midst, GivesFrom, Continues}
-use Rattle.sim_stream.specs.Ends.{RunsCycle, CycleEnds, Advances, cycle_in}
+use Rattle.sim_stream.specs.Ends.{RunsCycle, CycleEnds, Advances, Finishes, cycle_in}
 
 abbrev midst : Module → List ℕ → Place → ℕ → ℕ → Midst
 midst design values place cycle tick = record { design = design; values = values; place = place; cycle = cycle; tick = tick }
@@ -53,3 +54,63 @@ pub continued : (a b c : Midst) (bytes middle left first second : List ℕ) → 
 continued a b c bytes middle left first second one two = record {
   gives = λ rest text last g. subst (λ (all : List ℕ). GivesFrom a (bytes ++ rest) all last) (sym (append_assoc first second text)) (one.gives rest (second ++ text) last (two.gives rest text last g));
 }
+
+drop-more : (n m : ℕ) (xs : List ℕ) → drop m (drop n xs) ≡ drop (n + m) xs
+drop-more zero m xs = ap (λ (k : ℕ). drop k xs) (sym (zero-add m))
+drop-more (suc n) m [] = drop-nil m ∙ sym (drop-nil (suc n + m))
+drop-more (suc n) m (x ∷ xs) = drop-more n m xs ∙ (let next : suc (n + m) ≡ suc n + m = omega arith in ap (λ (k : ℕ). drop k (x ∷ xs)) next)
+
+-- more bytes were taken
+pub advanced : (a b c : Midst) (piece : List ℕ) (taken more : ℕ) (before middle after : List ℕ) → Advances a piece before (Ok taken) b middle → Advances b (drop taken piece) middle (Ok more) c after → Advances a piece before (Ok (taken + more)) c after
+advanced a b c piece taken more before middle after one two = (
+  one.0 ++ two.0,
+  two.1 ∙ ap (λ (out : List ℕ). out ++ two.0) one.1 ∙ append_assoc before one.0 two.0,
+  subst (λ (left : List ℕ). Continues a piece c left (one.0 ++ two.0)) (drop-more taken more piece) (continued a b c piece (drop taken piece) (drop more (drop taken piece)) one.0 two.0 one.2 two.2),
+)
+
+-- bytes behind those that were taken end in a fault
+pub advanced-fault : (a b : Midst) (c d : Midst) (piece : List ℕ) (taken : ℕ) (fault : StreamFault) (before middle after : List ℕ) → Advances a piece before (Ok taken) b middle → Advances b (drop taken piece) middle (Err fault) c after
+    → Advances a piece before (Err fault) d after
+advanced-fault a b c d piece taken (Line fault) before middle after one two = (
+  one.0 ++ two.0,
+  two.1 ∙ ap (λ (out : List ℕ). out ++ two.0) one.1 ∙ append_assoc before one.0 two.0,
+  (λ rest. one.2.gives rest two.0 (Some fault) (two.2 rest)),
+)
+advanced-fault a b c d piece taken Memory before middle after one two = (one.0 ++ two.0, two.1 ∙ ap (λ (out : List ℕ). out ++ two.0) one.1 ∙ append_assoc before one.0 two.0)
+
+-- nothing was taken yet
+pub not-advanced : (a : Midst) (piece before : List ℕ) → Advances a piece before (Ok 0) a before
+not-advanced a piece before = ([], sym (append-nil before), record { gives = λ rest text last g. g })
+
+-- ---- the end
+
+module _ (m : Midst) (design : Module) (values : List ℕ) (place : Place) (cycle tick : ℕ) (is_m : midst design values place cycle tick ≡ m) where
+  abbrev AtEnd : List ℕ → Option LineFault → Type 0
+  AtEnd text last = GivesFrom m [] text last
+
+  from_rows : (reading : Reading) (text : List ℕ) (last : Option LineFault) → rows_from place [] ≡ reading → Gives (design_view design) (values_of values) cycle tick (cycles_for (design_view design) reading) text last → AtEnd text last
+  from_rows reading text last is g = subst (λ (n : Midst). GivesFrom n [] text last) is_m
+      (subst (λ (r : Reading). Gives (design_view design) (values_of values) cycle tick (cycles_for (design_view design) r) text last) (sym is) g)
+
+  pub end-none : rows_from place [] ≡ row_then (Ok None) no_rows → AtEnd [] None
+  end-none is = from_rows no_rows [] None is (record { settled = []; run = refl; shown = refl; refused = refl })
+
+  pub end-refused : (fault : LineFault) → rows_from place [] ≡ row_then (Err fault) no_rows → AtEnd [] (Some fault)
+  end-refused fault is = from_rows (refused fault) [] (Some fault) is (record { settled = []; run = refl; shown = refl; refused = refl })
+
+  pub end-run : (row : Row) (after : List ℕ) (ticks : ℕ) (line : List ℕ) → rows_from place [] ≡ row_then (Ok (Some row)) no_rows → RunsCycle (design_view design) (values_of values) cycle tick row (values_of after) ticks line → AtEnd line None
+  end-run row after ticks line is runs =
+      from_rows (row_then (Ok (Some row)) no_rows) line None is
+      (subst (λ (text : List ℕ). Gives (design_view design) (values_of values) cycle tick (item_then (cycle_in (design_view design) row) (cycles_for (design_view design) no_rows)) text None) (append-nil line)
+      (runs.gives (cycles_for (design_view design) no_rows) [] None (record { settled = []; run = refl; shown = refl; refused = refl })))
+
+  -- the last row is refused, or memory runs out
+  pub end-faults : (fault : StreamFault) (row : Row) (after : List ℕ) (before out : List ℕ) → rows_from place [] ≡ row_then (Ok (Some row)) no_rows
+      → CycleEnds (design_view design) (values_of values) cycle tick row before (Err fault) (values_of after) out → Finishes m before (Err fault) out
+  end-faults (Line fault) row after before out is ends = (
+    ends.0,
+    from_rows (row_then (Ok (Some row)) no_rows) [] (Some fault) is
+        (subst (λ (first : Result Stimulus LineFault). Gives (design_view design) (values_of values) cycle tick (item_then first (cycles_for (design_view design) no_rows)) [] (Some fault)) (sym ends.1)
+        (record { settled = []; run = refl; shown = refl; refused = refl })),
+  )
+  end-faults Memory row after before out is ends = ends

@@ -1,7 +1,7 @@
 // A simulation of a stimulus that comes in pieces.
 ghost use Rattle.std.specs.Prelude.{◌≡◌, ◌≤◌, ◌<◌, ◌+◌, ◌⊎◌, ◌++◌, length, IfOk, OnOk};
 ghost use Rattle.verilog_tree.specs.View.{design_view};
-ghost use Rattle.clock_sim.specs.Sim.{IsSound};
+ghost use Rattle.clock_sim.specs.Sim.{IsSound, register_count};
 ghost use Rattle.sim_stream.specs.Stream.{IsStart};
 ghost use Rattle.sim_stream.specs.Ends.{Advances, Finishes};
 
@@ -17,7 +17,20 @@ use verilog_tree::{Kind, Module};
 /// The output of a call is full where it is longer than this: one more line has at most 124 bytes, and 65,536 are the limit.
 const FULL: usize = 65_412;
 
-/// A simulation of a module from registers of 0.
+// How many registers a module has.
+fn register_count(design: &Module) -> usize
+    ensures { result ≡ register_count design.now.signals.items }
+{
+    let mut count = 0;
+    for signal in design.signals.as_slice() {
+        if signal.kind == Kind::Reg {
+            count += 1;
+        }
+    }
+    count
+}
+
+/// A simulation of a module, in the midst of its stimulus.
 #[derive(Drop)]
 pub struct SimStream<'a> {
     lines: Lines,
@@ -55,6 +68,64 @@ impl<'a> SimStream<'a> {
                 self.tick = run_cycle(alloc, &mut self.sim, &row, self.cycle, self.tick, out)?;
                 self.cycle += 1;
                 Ok(step.taken)
+            }
+        }
+    }
+
+    /// A simulation of a module from registers of 0, before its stimulus. Fails only for want of memory.
+    pub fn start(alloc: Global, design: &'a Module) -> Result<SimStream<'a>, Memory>
+        requires { IsSound (design_view design.now) }
+        ensures { IfOk result (λ stream. IsStart stream design.now) }
+    {
+        let initial = Vec::from_elem(alloc, 0u128, register_count(design))?;
+        Ok(SimStream {
+            lines: Lines::new(alloc, 3)?,
+            sim: Sim::start(alloc, design, &initial)?,
+            cycle: 0,
+            tick: 0,
+        })
+    }
+
+    /// Takes bytes of the stimulus, and appends what the module shows in their cycles. It takes all of them, but for those behind the
+    /// line with which the output gets longer than 65,412 bytes. It fails at the first refused line, where the output holds what the
+    /// cycles before it show, and for want of memory.
+    pub fn advance(
+        &mut self,
+        alloc: Global,
+        piece: &[u8],
+        out: &mut Vec<u8>,
+    ) -> Result<usize, StreamFault>
+        ensures ends { Advances self.old piece.now out.old.items result self.new out.new.items }
+        ensures within { IfOk result (λ taken. taken ≤ length piece.now) }
+        ensures all { IfOk result (λ taken. (taken ≡ length piece.now) ⊎ (65412 < length out.new.items)) }
+        ensures some { 0 < length piece.now → length out.old.items ≤ 65412 → IfOk result (λ taken. 0 < taken) }
+        ensures short { length out.old.items ≤ 65536 → length out.new.items ≤ 65536 }
+    {
+        let mut taken = 0;
+        'rows: while taken < piece.len() && out.len() <= FULL {
+            let (_, left) = piece.split_at(taken);
+            taken += self.turn(alloc, left, out)?;
+        }
+        Ok(taken)
+    }
+
+    /// Appends what the module shows in the cycle of a last line without an end. It fails where that line is refused, and with the
+    /// fault of the first line that was.
+    pub fn finish(self, alloc: Global, out: &mut Vec<u8>) -> Result<(), StreamFault>
+        ensures ends { Finishes self.entry out.old.items result out.new.items }
+        ensures short { length out.new.items ≤ length out.old.items + 124 }
+    {
+        let SimStream {
+            lines,
+            mut sim,
+            cycle,
+            tick,
+        } = self;
+        match lines.finish()? {
+            None => Ok(()),
+            Some(row) => {
+                run_cycle(alloc, &mut sim, &row, cycle, tick, out)?;
+                Ok(())
             }
         }
     }

@@ -1,0 +1,14 @@
+use Rattle.std.proofs.Common.{◌≡◌, ◌≤◌, ◌-◌, Ok, length}
+use Rattle.sim_stream.specs.Ends.{Advances}
+use Rattle.sim_stream.proofs.stream.SimStream.advance.Given as goal
+
+abbrev pub invariant-rows : goal.invariant-rows
+invariant-rows l = record {
+  ends : Advances l.initial.self l.piece l.initial.out.items (Ok l.taken) l.self l.out.items;
+  within : l.taken ≤ length l.piece;
+  none : l.taken ≡ 0 → l.out.items ≡ l.initial.out.items;
+  short : length l.initial.out.items ≤ 65536 → length l.out.items ≤ 65536;
+}
+
+abbrev pub decreases-rows : goal.decreases-rows
+decreases-rows l = length l.piece - l.taken
