@@ -4,4 +4,4 @@
 mod dependents;
 mod search;
 
-pub use search::first_loop;
+pub use search::{first_loop, target_count};

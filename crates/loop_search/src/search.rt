@@ -13,8 +13,8 @@ use settle_order::{is_open, place_all};
 use std::alloc::Global;
 use verilog_tree::{Module, Signal};
 
-// One more than the greatest number of a target, if there is such a number.
-fn target_count(design: &Module) -> Option<usize>
+/// One more than the greatest number of a target of an assignment, if there is such a number.
+pub fn target_count(design: &Module) -> Option<usize>
     ensures { IfSome result (AreNamed (design_view design.now)) }
 {
     let mut count = 0usize;
