@@ -1,0 +1,3 @@
+pub mod WholeReads
+pub mod AssignedKinds
+pub mod Exists
