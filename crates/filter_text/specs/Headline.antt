@@ -9,6 +9,7 @@ use Rattle.verilog_tree.specs.Checks.{Passes}
 use Rattle.verilog_tree.specs.Counted.{counted}
 use Rattle.verilog_tree.specs.Meaning.{Values}
 use Rattle.module_laws.specs.Running.{HasRuns}
+use Rattle.uncut_runs.specs.Exists.{HasOneUncutRun}
 use Rattle.verilog_tree.specs.Names.{shapes_of, number_of}
 use Rattle.verilog_tree.specs.Shown.{Cycle, Event, RunsOver, EachFits, ports_of, events_of}
 use Rattle.verilog_tree.specs.Tree.{Design}
@@ -82,14 +83,16 @@ abbrev pub AreCounted : ℕ → List Group → Design → Type 0
 AreCounted number [] d = Unit {0}
 AreCounted number (g ∷ gs) d = IsCounted g number d × AreCounted (number + 1) gs d
 
--- the bytes read as one module, it passes every check, from any content it runs over any cycles, its output has the least width for the
--- span of the last stream, and it shows the chain, and its groups cost what they cost as stages; where no group rounds, its output register is never cut
+-- the bytes read as one module, it passes every check, from any content it runs over any cycles, cut and uncut, its output has the least
+-- width for the span of the last stream, it shows the chain, and its groups cost what they cost as stages; where no group rounds, its
+-- output register is never cut
 pub record IsTextOf (elements : List Element) (width ticks latency period : ℕ) (bytes : List ℕ) : Type 0 where
   pub design : Design
   pub reads : Reads bytes design
   pub only : (other : Design) → Reads bytes other → other ≡ design
   pub passes : Passes design
   pub runs : HasRuns design
+  pub one_uncut : HasOneUncutRun design
   pub output : IsLeastWidth (last_stream width ticks elements).low (last_stream width ticks elements).high ((shapes_of design).width (ports_of design).out_data)
   pub shows : ShowsChain elements width ticks latency period design
   pub uncut : ArePlainGroups (groups elements) → KeepsOutput elements width ticks latency period design

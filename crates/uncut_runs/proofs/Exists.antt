@@ -1,8 +1,9 @@
 -- The numbers of an uncut cycle, from the lowest level up.
-use Rattle.std.proofs.Common.{◌≡◌, ℕ, zero, suc, ◌<◌, Bool, true, false, cond, List, [], ◌∷◌, find, Option, None, Some, slice_get, ℤ, refl, sym, ◌∙◌, ap, arith}
+use Rattle.std.proofs.Common.{◌≡◌, ℕ, zero, suc, ◌<◌, Bool, true, false, cond, List, [], ◌∷◌, find, Option, None, Some, slice_get, ℤ, refl, sym, ◌∙◌, ap, subst, arith}
 use Rattle.std.specs.Prelude.{◌==◌}
 use Rattle.std.specs.Option.{option_map, option_map_or}
 use Rattle.std.proofs.lemmas.Bool.{eqb-true, eq-eqb}
+use Rattle.std.proofs.Math.Path.{fun_ext}
 use Rattle.verilog_tree.specs.declared.tree.Signal.{Signal}
 use Rattle.verilog_tree.specs.declared.tree.Kind.{Kind}
 use Rattle.verilog_tree.specs.declared.tree.Kind.TheVariants.{Input, Output, Wire, Reg}
@@ -11,10 +12,10 @@ use Rattle.verilog_tree.specs.Meaning.{Values}
 use Rattle.verilog_tree.specs.Names.{declaration_in, shapes_of, kind_of, text_of, is_control}
 use Rattle.verilog_tree.specs.Cycle.{IsDrivenOnce, IsLoopFree}
 use Rattle.verilog_tree.specs.Checks.{is_input_port, Passes}
-use Rattle.verilog_tree.specs.Uncut.{Numbers, IsUncut, number_at, whole, whole_next}
+use Rattle.verilog_tree.specs.Uncut.{Numbers, IsUncut, IsUncutRun, number_at, whole, whole_next}
 use Rattle.module_laws.proofs.Levels.{loop_free}
 use Rattle.module_laws.proofs.Passing.{none_fails, passing_driven}
-use Rattle.uncut_runs.specs.Exists.{HasUncutRuns}
+use Rattle.uncut_runs.specs.Exists.{HasOneUncutRun}
 use Rattle.uncut_runs.proofs.AssignedKinds.{assigns_no_input}
 use Rattle.uncut_runs.proofs.WholeReads.{whole_reads}
 
@@ -182,12 +183,50 @@ module _ (d : Design) (driven : IsDrivenOnce d) (free : IsLoopFree d) (inputs : 
           ∙ ap (λ (o : Option Assignment). pick false false o (number_at d values n) (start n) (numbers_to (level n))) (no_driver_of n wire);
     }
 
-  uncut_runs : HasUncutRuns d
-  uncut_runs begins [] = ([], refl)
-  uncut_runs begins (values ∷ settled) =
+  -- ---- there is one
+
+  module _ (start : Numbers) (values : Values) (v w : Numbers) (p : IsUncut d start values v) (q : IsUncut d start values w) where
+    same_data : (n : ℕ) → is_control (text_of d n) ≡ false → (input : Bool) → is_in n ≡ input → (o : Option Assignment) → driver n ≡ o → ((m : ℕ) → level m < level n → v m ≡ w m) → v n ≡ w n
+    same_data n plain true is o own lower = let input = kind_in (declaration_in d.signals n) is in p.inputs n input ∙ sym (q.inputs n input)
+    same_data n plain false is None own lower =
+        let never : kind_of d n ≡ Some Input → ⊥ = λ input. false_true (sym is ∙ in_kind (declaration_in d.signals n) input) in
+        p.registers n plain never (not_found n d.assigns own) ∙ sym (q.registers n plain never (not_found n d.assigns own))
+    same_data n plain false is (Some a) own lower =
+        let f = found n d.assigns a own in
+        let wire = ap (λ (m : ℕ). is_control (text_of d m)) f.target ∙ plain in
+        ap v (sym f.target) ∙ p.wires f.place a f.there wire
+        ∙ whole_reads (shapes_of d) v w a.value (λ m read. let below = free.1 f.place a f.there m read in lower m (omega (arith, below, ap level f.target)))
+        ∙ sym (q.wires f.place a f.there wire) ∙ ap w f.target
+
+    same_below : (k n : ℕ) → level n < k → v n ≡ w n
+    same_below zero n lt = absurd (omega arith)
+    same_below (suc k) n lt = by (is_control (text_of d n)) refl (λ m less. same_below k m (omega (arith, lt, less)))
+      where
+        by : (b : Bool) → is_control (text_of d n) ≡ b → ((m : ℕ) → level m < level n → v m ≡ w m) → v n ≡ w n
+        by true control lower = p.control n control ∙ sym (q.control n control)
+        by false plain lower = same_data n plain (is_in n) refl (driver n) refl lower
+
+    same_numbers : v ≡ w
+    same_numbers = fun_ext (λ n. same_below (suc (level n)) n (omega arith))
+
+  one_run : (begins : Numbers) (settled : List Values) (us ws : List Numbers) → IsUncutRun d begins settled us → IsUncutRun d begins settled ws → us ≡ ws
+  one_run begins [] us ws p q = p ∙ sym q
+  one_run begins (values ∷ settled) us ws (v, rest, is, one, run) (w, rest', is', one', run') =
+      let same = same_numbers begins values v w one one' in
+      let later = one_run (whole_next d v) settled rest rest' run (subst (λ (n : Numbers). IsUncutRun d (whole_next d n) settled rest') (sym same) run') in
+      is ∙ ap (λ (n : Numbers). n ∷ rest) same ∙ ap (λ (ns : List Numbers). w ∷ ns) later ∙ sym is'
+
+  some_run : (begins : Numbers) (settled : List Values) → (uncut : List Numbers) × IsUncutRun d begins settled uncut
+  some_run begins [] = ([], refl)
+  some_run begins (values ∷ settled) =
       let now = numbers begins values in
-      let rest = uncut_runs (whole_next d now) settled in
+      let rest = some_run (whole_next d now) settled in
       (now ∷ rest.0, (now, rest.0, refl, is_uncut begins values, rest.1))
 
-pub passing_uncut : (d : Design) → Passes d → HasUncutRuns d
-passing_uncut d passes = uncut_runs d (passing_driven d passes) (loop_free d passes.free) (assigns_no_input d (none_fails d passes.early).kinds)
+  one_uncut : HasOneUncutRun d
+  one_uncut begins settled =
+      let run = some_run begins settled in
+      (run.0, run.1, λ other its. one_run begins settled other run.0 its run.1)
+
+pub passing_uncut : (d : Design) → Passes d → HasOneUncutRun d
+passing_uncut d passes = one_uncut d (passing_driven d passes) (loop_free d passes.free) (assigns_no_input d (none_fails d passes.early).kinds)

@@ -9,6 +9,7 @@ use Rattle.verilog_text.specs.Order.{IsInOrder, IsSameButPlaces}
 use Rattle.verilog_text.proofs.OneReading.{one_design}
 use Rattle.net_module.proofs.Outputs.{shows_as}
 use Rattle.net_text.proofs.Writable.{has_text, in_order}
+use Rattle.uncut_runs.proofs.Exists.{passing_uncut}
 use Rattle.filter_text.specs.Headline.{ShowsChain, KeepsOutput}
 use Rattle.filter_text.proofs.ChainLimits.{narrow_plan, wide_plan, some_ticks}
 use Rattle.filter_text.proofs.ChainPlaces.{chain_writable, output_wide}
@@ -49,6 +50,7 @@ returns c =
       only = λ other its. one_design text.items other read.0 its read.1;
       passes = passing cells net.netlist can read.0 as_written;
       runs = running cells net.netlist can read.0 as_written;
+      one_uncut = passing_uncut read.0 (passing cells net.netlist can read.0 as_written);
       output = subst (IsLeastWidth (last_stream W T es).low (last_stream W T es).high) (sym (output_width cells read.0 as_written ∙ output_wide net)) net.least;
       shows = subst (λ (p : ℕ). ShowsChain es W T c.args.facts.now.latency p read.0) (sym c.requires.are_facts.period_is)
           (subst (λ (l : ℕ). ShowsChain es W T l (last_stream W T es).period read.0) (sym c.requires.are_facts.latency_is)
