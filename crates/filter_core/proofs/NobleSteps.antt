@@ -1,10 +1,10 @@
 -- Steps of `noble`.
-use Rattle.std.proofs.Common.{◌≡◌, ◌∙◌, ℕ, zero, suc, ◌<◌, ◌≤◌, ◌^◌, List, [], ◌∷◌, length, Some, Result, Ok, Err, ℤ, pos, negsuc, inl, inr, refl, ap, subst, arith}
+use Rattle.std.proofs.Common.{◌≡◌, ◌∙◌, ℕ, zero, suc, ◌<◌, ◌≤◌, ◌^◌, List, [], ◌∷◌, length, Result, Ok, Err, ℤ, pos, negsuc, inr, refl, ap, subst, arith}
 use Rattle.std.specs.Prelude.{All, IfOk, Vec}
 use Rattle.std.specs.declared.alloc.Global.{Global}
 use Rattle.mr_values.specs.declared.memory.Memory.{Memory as NoMemory}
 use Rattle.std.proofs.lemmas.Int.{ints}
-use Rattle.std.specs.FinMap.{get, insert}
+use Rattle.std.specs.FinMap.{insert}
 use Rattle.mr_values.specs.Files.{Files}
 use Rattle.mr_values.specs.Host.{HostState}
 use Rattle.mr_values.specs.declared.host.HostCall.TheVariants.{OpenInput, Next, OpenOutput, Put}
@@ -20,10 +20,8 @@ use Rattle.noble_rewrite.specs.Turns.{HasFactor, HaveFactors, IsSettled, LeadsTo
 use Rattle.mr_values.specs.Sequence.{Sequence}
 use Rattle.plan_reader.specs.Documents.{Says}
 use Rattle.filter_core.specs.declared.fault.Fault.{Fault}
-use Rattle.filter_core.specs.declared.fault.Fault.TheVariants.{HostFault, Memory, PlanRead, NotBuilt}
-use Rattle.filter_core.specs.declared.fault.Fault.TheVariants as fault
-use Rattle.filter_core.specs.Compile.{IsReadToEnd}
-use Rattle.filter_core.specs.PlanFile.{AcceptAnswer, SaysAccepted}
+use Rattle.filter_core.specs.declared.fault.Fault.TheVariants.{HostFault, Memory}
+use Rattle.filter_core.specs.PlanFile.{AreReadToEnd}
 use Rattle.filter_core.specs.Noble.{IsRewriting, IsOutput, NobleEnds}
 use Rattle.filter_core.specs.WholeFiles.{WriteAnswer, IsEmptied, HoldsFront, HoldsPart}
 
@@ -64,16 +62,8 @@ rewriting_of plan new bytes turns accepted says width ticks leads ended value = 
   value = value (have_factors plan accepted);
 }
 
--- what OUT is to hold, of a plan that is there
-pub output_of : (plan : List ℕ) (files : Files) (bytes text : List ℕ) (accepted : Plan) → get files plan ≡ Some bytes → length bytes ≤ 2 ^ 20 → SaysAccepted bytes accepted → IsRewriting accepted text → IsOutput plan files text
-output_of plan files bytes text accepted there short says rewriting = record {
-  meaning = accepted;
-  accepted = record { bytes = bytes; has = record { there = there; short = short }; accepted = says };
-  rewriting = rewriting;
-}
-
 -- OUT is written
-pub out_written : (plan out text : List ℕ) (result : Result (Unit {0}) Fault) (old read new : HostState) → IsOutput plan old.files text → IsReadToEnd plan old new → read.files ≡ old.files
+pub out_written : (plan out text : List ℕ) (result : Result (Unit {0}) Fault) (old read new : HostState) → IsOutput plan old.files text → AreReadToEnd plan old new → read.files ≡ old.files
     → WriteAnswer out text result read.files new.files → NobleEnds plan out result old new
 out_written plan out text (Ok unit) old read new output ended files answer = record { bytes = text; output = output; ended = ended; written = answer ∙ ap (λ (before : Files). insert before out text) files }
 out_written plan out text (Err (HostFault OpenInput)) old read new output ended files answer = absurd answer
@@ -82,14 +72,6 @@ out_written plan out text (Err (HostFault OpenOutput)) old read new output ended
 out_written plan out text (Err (HostFault Put)) old read new output ended files answer = (text, output, subst (λ (before : Files). HoldsFront out text before new.files) files answer)
 out_written plan out text (Err Memory) old read new output ended files answer = inr (text, output, subst (λ (before : Files). HoldsPart out text before new.files) files answer)
 out_written plan out text (Err _) old read new output ended files answer = absurd answer
-
--- the plan file was refused
-pub noble_refused : (plan out bytes : List ℕ) (why : Fault) (old new : HostState) → get old.files plan ≡ Some bytes → length bytes ≤ 2 ^ 20 → AcceptAnswer bytes (Err why) → new.files ≡ old.files → NobleEnds plan out (Err why) old new
-noble_refused plan out bytes (PlanRead why) old new there short answer same = (record { bytes = bytes; has = record { there = there; short = short }; unread = answer }, same)
-noble_refused plan out bytes (fault.Plan why) old new there short answer same = (record { bytes = bytes; has = record { there = there; short = short }; unaccepted = answer }, same)
-noble_refused plan out bytes NotBuilt old new there short answer same = (record { bytes = bytes; has = record { there = there; short = short }; files_named = answer }, same)
-noble_refused plan out bytes Memory old new there short answer same = inl same
-noble_refused plan out bytes _ old new there short answer same = absurd answer
 
 -- the text of a rewritten plan
 pub rewriting_text : (plan : Plan) (given elements : List Element) (turns : List Applied) (result : Result (Vec ℕ Global) NoMemory) → IsAccepted plan → given ≡ plan.elements

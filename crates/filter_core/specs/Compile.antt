@@ -1,15 +1,13 @@
 -- What `compile` writes, and what its answers mean.
-use Rattle.std.specs.Prelude.{◌≡◌, ◌⊎◌, ℕ, ◌≤◌, ◌^◌, ℤ, pos, ◌*ℤ◌, ◌-ℤ◌, unsigned_abs, List, [], drop, true, false, Result, Ok, Err}
+use Rattle.std.specs.Prelude.{◌≡◌, ◌⊎◌, ℕ, ◌≤◌, ◌^◌, ℤ, pos, ◌*ℤ◌, ◌-ℤ◌, unsigned_abs, List, true, false, Result, Ok, Err}
 use Rattle.std.specs.FinMap.{insert}
-use Rattle.mr_values.specs.Files.{Files, bytes_of}
+use Rattle.mr_values.specs.Files.{Files}
 use Rattle.mr_values.specs.Host.{HostState}
 use Rattle.mr_values.specs.declared.host.HostCall.{HostCall}
 use Rattle.mr_values.specs.declared.host.HostCall.TheVariants.{OpenInput, Next, OpenOutput, Put}
 use Rattle.filter_core.specs.declared.fault.Fault.{Fault}
-use Rattle.filter_core.specs.declared.fault.Fault.TheVariants.{HostFault, Memory, FileTooLong, PlanRead, NotBuilt}
-use Rattle.filter_core.specs.declared.fault.Fault.TheVariants as fault
-use Rattle.filter_core.specs.declared.fault.FileKind.TheVariants.{Plan}
-use Rattle.mr_values.specs.declared.plan.Plan.{Plan as ChainPlan}
+use Rattle.filter_core.specs.declared.fault.Fault.TheVariants.{HostFault, Memory, NotBuilt}
+use Rattle.mr_values.specs.declared.plan.Plan.{Plan}
 use Rattle.mr_values.specs.declared.plan.Element.{Element}
 use Rattle.mr_values.specs.Value.{size, val}
 use Rattle.plan_check.specs.declared.facts.Facts.{Facts}
@@ -17,34 +15,25 @@ use Rattle.plan_check.specs.Accepted.{AreFacts}
 use Rattle.chain_build.specs.Built.{are_built}
 use Rattle.plan_laws.specs.Laws.{plain}
 use Rattle.filter_text.specs.Headline.{IsTextOf}
-use Rattle.filter_core.specs.PlanFile.{IsTooLong, IsAcceptedFile, IsUnreadFile, IsUnacceptedFile, HasTapFiles}
+use Rattle.filter_core.specs.PlanFile.{IsAcceptedFile, IsRefusedPlan, AreReadToEnd}
 use Rattle.filter_core.specs.Report.{report_text}
 use Rattle.filter_core.specs.WholeFiles.{IsEmptied, HoldsFront, HoldsPart}
 
 -- PLAN is accepted, and its elements are built
 pub record IsBuiltFile (name : List ℕ) (files : Files) : Type 0 where
-  pub plan : ChainPlan
+  pub plan : Plan
   pub accepted : IsAcceptedFile name files plan
   pub built : are_built plan.elements ≡ true
 
 -- PLAN is accepted, and has an element that isn't built
 pub record IsUnbuiltFile (name : List ℕ) (files : Files) : Type 0 where
-  pub plan : ChainPlan
+  pub plan : Plan
   pub accepted : IsAcceptedFile name files plan
   pub other : are_built plan.elements ≡ false
-
--- PLAN is no plan that is built yet: it is another plan, or it has tap files
-abbrev pub IsNotBuilt : List ℕ → Files → Type 0
-IsNotBuilt name files = IsUnbuiltFile name files ⊎ HasTapFiles name files
 
 -- 2 ^ shift times a value of the chain is at most the bound away from the value of the chain without its roundings
 abbrev pub IsBounded : List Element → Facts → Type 0
 IsBounded elements facts = (xs : List ℤ) (n : ℤ) → unsigned_abs (pos (2 ^ facts.shift) *ℤ val elements xs n -ℤ val (plain elements) xs n) ≤ facts.bound
-
--- PLAN was read to its end
-pub record IsReadToEnd (plan : List ℕ) (old new : HostState) : Type 0 where
-  pub input : new.input ≡ plan
-  pub end : drop new.place (bytes_of old.files plan) ≡ []
 
 -- What TEXT and REPORT are to hold: a text that reads as a module which shows the plan's chain, at its latency and period, and the
 -- lines of the report, which tell these and the bound: 2 ^ shift times a value is at most the bound away from the value of the chain
@@ -61,14 +50,14 @@ pub record AreOutputs (plan : List ℕ) (files : Files) (text report : List ℕ)
 abbrev pub HoldsBoth : List ℕ → List ℕ → List ℕ → List ℕ → Files → Files → Type 0
 HoldsBoth text report text_bytes report_bytes old new = new ≡ insert (insert old text text_bytes) report report_bytes
 
--- The command was done: PLAN was read to its end and is accepted, TEXT reads as one module that shows, after any reset, for all samples
--- and clock enables, exactly the plan's chain at the reported latency and period and at no other tick, REPORT has the lines of the
--- report, and no other file has changed.
+-- The command was done: PLAN and its tap files were read to their end and are accepted, TEXT reads as one module that shows, after any
+-- reset, for all samples and clock enables, exactly the plan's chain at the reported latency and period and at no other tick, REPORT has
+-- the lines of the report, and no other file has changed.
 pub record IsCompiled (plan text report : List ℕ) (old new : HostState) : Type 0 where
   pub text_bytes : List ℕ
   pub report_bytes : List ℕ
   pub outputs : AreOutputs plan old.files text_bytes report_bytes
-  pub ended : IsReadToEnd plan old new
+  pub ended : AreReadToEnd plan old new
   pub written : HoldsBoth text report text_bytes report_bytes old.files new.files
 
 -- what the files hold where TEXT was being written, or REPORT was and TEXT is whole
@@ -95,10 +84,7 @@ IsCutOff plan text report old new = (new ≡ old) ⊎ IsCutShort HoldsPart plan 
 -- each answer of `compile`, and the host after it
 abbrev pub CompileEnds : List ℕ → List ℕ → List ℕ → Result (Unit {0}) Fault → HostState → HostState → Type 0
 CompileEnds plan text report (Ok done) old new = IsCompiled plan text report old new
-CompileEnds plan text report (Err (FileTooLong Plan)) old new = IsTooLong plan old.files × (new.files ≡ old.files)
-CompileEnds plan text report (Err (PlanRead why)) old new = IsUnreadFile plan old.files why × (new.files ≡ old.files)
-CompileEnds plan text report (Err (fault.Plan why)) old new = IsUnacceptedFile plan old.files why × (new.files ≡ old.files)
-CompileEnds plan text report (Err NotBuilt) old new = IsNotBuilt plan old.files × (new.files ≡ old.files)
+CompileEnds plan text report (Err NotBuilt) old new = IsUnbuiltFile plan old.files × (new.files ≡ old.files)
 CompileEnds plan text report (Err (HostFault call)) old new = IsStoppedAt call plan text report old.files new.files
 CompileEnds plan text report (Err Memory) old new = IsCutOff plan text report old.files new.files
-CompileEnds plan text report (Err _) old new = ⊥
+CompileEnds plan text report (Err why) old new = IsRefusedPlan plan old.files why × (new.files ≡ old.files)

@@ -1,5 +1,5 @@
 -- How a command ends: which host call, if any, is to blame, and what the counts of faults say of it.
-use Rattle.std.specs.Prelude.{◌≡◌, ◌⊎◌, ℕ, List, IsTrue, Option, Some, None, Result, Ok, Err, Any}
+use Rattle.std.specs.Prelude.{◌≡◌, ◌⊎◌, ℕ, List, IsTrue, Option, Some, None, Result, Ok, Err}
 use Rattle.std.specs.FinMap.{get}
 use Rattle.mr_values.specs.declared.host.HostCall.{HostCall}
 use Rattle.mr_values.specs.declared.host.HostCall.TheVariants.{OpenInput}
@@ -23,17 +23,25 @@ abbrev pub IsBlamed : Option HostCall → HostState → HostState → Type 0
 IsBlamed None old new = new.faults ≡ old.faults
 IsBlamed (Some call) old new = IsRisen (count_of call old.faults) (count_of call new.faults)
 
--- one of these files isn't there
-abbrev pub IsMissing : List (List ℕ) → Files → Type 0
-IsMissing names files = Any (λ name. get files name ≡ None) names
+-- ---- which files are to be read, by the files and a name
+
+abbrev pub IsNoFile : Files → List ℕ → Type 0
+IsNoFile files name = ⊥
+
+abbrev pub IsThisFile : List ℕ → Files → List ℕ → Type 0
+IsThisFile file files name = name ≡ file
+
+-- a file that is to be read isn't there
+abbrev pub IsMissing : (Files → List ℕ → Type 0) → Files → Type 0
+IsMissing IsRead files = (name : List ℕ) × IsRead files name × (get files name ≡ None)
 
 -- Over told files, a call is blamed only where the host was struck, or where a file to be read isn't there.
-abbrev pub IsStruckFor : List (List ℕ) → Option HostCall → HostState → HostState → Type 0
-IsStruckFor reads None old new = new.struck ≡ old.struck
-IsStruckFor reads (Some call) old new = IsRisen old.struck new.struck ⊎ ((call ≡ OpenInput) × IsMissing reads old.files)
+abbrev pub IsStruckFor : (Files → List ℕ → Type 0) → Option HostCall → HostState → HostState → Type 0
+IsStruckFor IsRead None old new = new.struck ≡ old.struck
+IsStruckFor IsRead (Some call) old new = IsRisen old.struck new.struck ⊎ ((call ≡ OpenInput) × IsMissing IsRead old.files)
 
 -- how a command that reads these files, or a part of one, ends
-pub record EndsWith (reads : List (List ℕ)) (call : Option HostCall) (old new : HostState) : Type 0 where
+pub record EndsWith (IsRead : Files → List ℕ → Type 0) (call : Option HostCall) (old new : HostState) : Type 0 where
   pub same_kind : new.tells ≡ old.tells
   pub blamed : IsBlamed call old new
-  pub struck : IsTrue old.tells → IsStruckFor reads call old new
+  pub struck : IsTrue old.tells → IsStruckFor IsRead call old new

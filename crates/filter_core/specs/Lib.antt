@@ -2,6 +2,7 @@ pub mod Ends
 pub mod WholeFiles
 pub mod PlanFaults
 pub mod PlanFile
+pub mod Reading
 pub mod Report
 pub mod CommandWords
 pub mod Compile

@@ -7,22 +7,19 @@ use Rattle.mr_values.specs.Sequence.{Sequence}
 use Rattle.mr_values.specs.Value.{chain}
 use Rattle.mr_values.specs.declared.host.HostCall.{HostCall}
 use Rattle.mr_values.specs.declared.host.HostCall.TheVariants.{OpenInput, Next, OpenOutput, Put}
-use Rattle.mr_values.specs.declared.plan.Plan.{Plan as ChainPlan}
+use Rattle.mr_values.specs.declared.plan.Plan.{Plan}
 use Rattle.noble_rewrite.specs.declared.turn.Applied.{Applied}
 use Rattle.noble_rewrite.specs.Turns.{IsSettled, LeadsTo}
 use Rattle.plan_reader.specs.Documents.{Says}
 use Rattle.filter_core.specs.declared.fault.Fault.{Fault}
-use Rattle.filter_core.specs.declared.fault.Fault.TheVariants.{HostFault, Memory, FileTooLong, PlanRead, NotBuilt}
-use Rattle.filter_core.specs.declared.fault.Fault.TheVariants as fault
-use Rattle.filter_core.specs.declared.fault.FileKind.TheVariants.{Plan}
-use Rattle.filter_core.specs.Compile.{IsReadToEnd}
-use Rattle.filter_core.specs.PlanFile.{IsTooLong, IsAcceptedFile, IsUnreadFile, IsUnacceptedFile, HasTapFiles}
+use Rattle.filter_core.specs.declared.fault.Fault.TheVariants.{HostFault, Memory}
+use Rattle.filter_core.specs.PlanFile.{IsAcceptedFile, IsRefusedPlan, AreReadToEnd}
 use Rattle.filter_core.specs.WholeFiles.{IsEmptied, HoldsFront, HoldsPart}
 
 -- The bytes are a plan file of a rewritten plan: the width and the ticks are the same, the noble identities lead to its elements,
 -- none applies to them, and they have the same value at every index of every sequence.
-pub record IsRewriting (plan : ChainPlan) (bytes : List ℕ) : Type 0 where
-  pub rewritten : ChainPlan
+pub record IsRewriting (plan : Plan) (bytes : List ℕ) : Type 0 where
+  pub rewritten : Plan
   pub says : Says bytes (Ok (record { plan = rewritten; files = [] }))
   pub width : rewritten.width ≡ plan.width
   pub ticks : rewritten.ticks ≡ plan.ticks
@@ -33,15 +30,16 @@ pub record IsRewriting (plan : ChainPlan) (bytes : List ℕ) : Type 0 where
 
 -- what OUT is to hold
 pub record IsOutput (plan : List ℕ) (files : Files) (bytes : List ℕ) : Type 0 where
-  pub meaning : ChainPlan
+  pub meaning : Plan
   pub accepted : IsAcceptedFile plan files meaning
   pub rewriting : IsRewriting meaning bytes
 
--- the command was done: PLAN was read to its end and is accepted, OUT says the rewritten plan, and no other file has changed
+-- the command was done: PLAN and its tap files were read to their end and are accepted, OUT says the rewritten plan, and no other file has
+-- changed
 pub record IsRewritten (plan out : List ℕ) (old new : HostState) : Type 0 where
   pub bytes : List ℕ
   pub output : IsOutput plan old.files bytes
-  pub ended : IsReadToEnd plan old new
+  pub ended : AreReadToEnd plan old new
   pub written : new.files ≡ insert old.files out bytes
 
 -- what OUT holds where writing it was cut short
@@ -62,10 +60,6 @@ IsEnded plan out old new = (new ≡ old) ⊎ IsShort (HoldsPart out) plan old ne
 -- each answer of `noble`, and the host after it
 abbrev pub NobleEnds : List ℕ → List ℕ → Result (Unit {0}) Fault → HostState → HostState → Type 0
 NobleEnds plan out (Ok unit) old new = IsRewritten plan out old new
-NobleEnds plan out (Err (FileTooLong Plan)) old new = IsTooLong plan old.files × (new.files ≡ old.files)
-NobleEnds plan out (Err (PlanRead why)) old new = IsUnreadFile plan old.files why × (new.files ≡ old.files)
-NobleEnds plan out (Err (fault.Plan why)) old new = IsUnacceptedFile plan old.files why × (new.files ≡ old.files)
-NobleEnds plan out (Err NotBuilt) old new = HasTapFiles plan old.files × (new.files ≡ old.files)
 NobleEnds plan out (Err (HostFault call)) old new = IsHaltedAt call plan out old.files new.files
 NobleEnds plan out (Err Memory) old new = IsEnded plan out old.files new.files
-NobleEnds plan out (Err _) old new = ⊥
+NobleEnds plan out (Err why) old new = IsRefusedPlan plan old.files why × (new.files ≡ old.files)

@@ -1,20 +1,21 @@
 -- What the program's answers mean, command by command.
-use Rattle.std.specs.Prelude.{◌≡◌, ℕ, List, [], ◌∷◌, Option, Some, None, Result, Ok, Err}
+use Rattle.std.specs.Prelude.{◌≡◌, ℕ, List, Option, Some, None, Result, Ok, Err}
 use Rattle.mr_values.specs.Files.{Files}
 use Rattle.mr_values.specs.Host.{HostState}
 use Rattle.filter_core.specs.declared.fault.Fault.{Fault}
 use Rattle.filter_core.specs.declared.fault.Fault.TheVariants.{Usage, NotBuilt}
 use Rattle.filter_core.specs.CommandWords.{CommandWords, compile_words, noble_words}
 use Rattle.mr_values.specs.declared.plan.Plan.{Plan}
-use Rattle.filter_core.specs.PlanFile.{IsAcceptedFile}
+use Rattle.filter_core.specs.Ends.{IsNoFile}
+use Rattle.filter_core.specs.PlanFile.{IsAcceptedFile, IsOfPlan}
 use Rattle.filter_core.specs.Noble.{NobleEnds}
 use Rattle.filter_core.specs.Compile.{CompileEnds, IsBuiltFile}
 
--- the files that a command reads
-abbrev pub files_read : CommandWords → List (List ℕ)
-files_read (compile_words plan text report) = plan ∷ []
-files_read (noble_words plan out) = plan ∷ []
-files_read _ = []
+-- a file that a command reads: PLAN, or a tap file that it names
+abbrev pub IsReadFor : CommandWords → Files → List ℕ → Type 0
+IsReadFor (compile_words plan text report) = IsOfPlan plan
+IsReadFor (noble_words plan out) = IsOfPlan plan
+IsReadFor _ = IsNoFile
 
 -- a command that isn't built makes no host call
 abbrev pub IsUnbuilt : CommandWords → Result (Unit {0}) Fault → HostState → HostState → Type 0
@@ -35,9 +36,9 @@ IsReady (noble_words plan out) files = (meaning : Plan) × IsAcceptedFile plan f
 IsReady _ files = ⊥
 
 -- the same of words that may be no command
-abbrev pub files_read_by : Option CommandWords → List (List ℕ)
-files_read_by None = []
-files_read_by (Some command) = files_read command
+abbrev pub IsReadBy : Option CommandWords → Files → List ℕ → Type 0
+IsReadBy None = IsNoFile
+IsReadBy (Some command) = IsReadFor command
 
 abbrev pub IsUnbuiltBy : Option CommandWords → Result (Unit {0}) Fault → HostState → HostState → Type 0
 IsUnbuiltBy None result old new = Unit {0}

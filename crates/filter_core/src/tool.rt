@@ -5,7 +5,7 @@ ghost use Rattle.filter_core.specs.CommandWords.{CommandWords, compile_words, wo
 ghost use Rattle.filter_core.specs.Compile.{IsCompiled};
 ghost use Rattle.filter_core.specs.Ends.{EndsWith, call_of};
 ghost use Rattle.filter_core.specs.Statuses.{status_of};
-ghost use Rattle.filter_core.specs.Tool.{CommandEnds, ToolEnds, IsUnbuilt, IsUnbuiltBy, IsReady, files_read, files_read_by, result_of};
+ghost use Rattle.filter_core.specs.Tool.{CommandEnds, ToolEnds, IsUnbuilt, IsUnbuiltBy, IsReady, IsReadFor, IsReadBy, result_of};
 
 use crate::Fault;
 use crate::compile_command::compile;
@@ -31,7 +31,7 @@ pub fn filter_tool<H: Host>(alloc: Global, words: &[String], host: &mut H) -> Ou
     ensures untouched { result.fault ≡ Some Fault.Usage → H.state host.new ≡ H.state host.old }
 
     // A blamed host call has failed, and over told files it was struck, or a file isn't there.
-    ensures cause { EndsWith (files_read_by (command_of (map string_bytes words.now))) (call_of (result_of result.fault)) (H.state host.old) (H.state host.new) }
+    ensures cause { EndsWith (IsReadBy (command_of (map string_bytes words.now))) (call_of (result_of result.fault)) (H.state host.old) (H.state host.new) }
 
     // A command that isn't built is refused at once.
     ensures unbuilt { IsUnbuiltBy (command_of (map string_bytes words.now)) (result_of result.fault) (H.state host.old) (H.state host.new) }
@@ -63,7 +63,7 @@ pub fn filter_tool<H: Host>(alloc: Global, words: &[String], host: &mut H) -> Ou
 fn run<H: Host>(alloc: Global, command: Command<'_>, host: &mut H) -> Result<(), Fault>
     ensures headline { (plan text report : List ℕ) → words_of command.entry ≡ compile_words plan text report → IsTrue (H.state host.old).tells → result ≡ Ok tt
         → IsCompiled plan text report (H.state host.old) (H.state host.new) }
-    ensures cause { EndsWith (files_read (words_of command.entry)) (call_of result) (H.state host.old) (H.state host.new) }
+    ensures cause { EndsWith (IsReadFor (words_of command.entry)) (call_of result) (H.state host.old) (H.state host.new) }
     ensures told { IsTrue (H.state host.old).tells → CommandEnds (words_of command.entry) result (H.state host.old) (H.state host.new) }
     ensures command { result ≢ Err Fault.Usage }
     ensures unbuilt { IsUnbuilt (words_of command.entry) result (H.state host.old) (H.state host.new) }
