@@ -1,5 +1,5 @@
 -- A plan file and its tap files have one answer.
-use Rattle.std.proofs.Common.{◌≡◌, ◌∙◌, ◌≤◌, ◌<◌, ◌^◌, List, [], ◌∷◌, ◌++◌, ℕ, ℤ, length, Option, Some, None, option_map, Result, Ok, Err, inl, inr, sym, ap, subst, refl, arith}
+use Rattle.std.proofs.Common.{◌≡◌, ◌∙◌, ◌≤◌, ◌^◌, List, [], ◌∷◌, ◌++◌, ℕ, ℤ, length, Option, Some, None, option_map, Result, Ok, Err, inl, inr, sym, ap, subst, refl, arith}
 use Rattle.std.proofs.lemmas.Option.{same_Some}
 use Rattle.std.specs.FinMap.{get}
 use Rattle.toml.specs.Data.{Members}
@@ -13,7 +13,7 @@ use Rattle.plan_reader.specs.declared.fault.TapFault.{TapFault}
 use Rattle.plan_reader.specs.declared.fault.TapFault.TheVariants.{Bad}
 use Rattle.plan_reader.specs.declared.plan_texts.PlanText.{PlanText}
 use Rattle.plan_reader.specs.declared.plan_texts.TapFile.{TapFile}
-use Rattle.plan_reader.specs.Documents.{plan_of, Says, IsRefusedFor}
+use Rattle.plan_reader.specs.Documents.{plan_of, Says}
 use Rattle.plan_reader.specs.TapFields.{SaysTaps}
 use Rattle.plan_reader.specs.Tapped.{plan_tapped}
 use Rattle.plan_reader.proofs.OneAnswer.{one_answer}

@@ -1,5 +1,5 @@
 -- The writes of `compile`.
-use Rattle.std.proofs.Common.{◌≡◌, ◌⊎◌, ℕ, List, [], true, false, Result, Ok, Err, inl, inr, ap, ◌∙◌, subst}
+use Rattle.std.proofs.Common.{◌≡◌, ℕ, List, true, Result, Ok, Err, inl, inr, ap, ◌∙◌, subst}
 use Rattle.std.specs.FinMap.{insert}
 use Rattle.filter_text.specs.Headline.{IsTextOf}
 use Rattle.filter_core.specs.Report.{report_text}

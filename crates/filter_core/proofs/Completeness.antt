@@ -5,9 +5,7 @@ use Rattle.mr_values.specs.Files.{Files}
 use Rattle.mr_values.specs.Host.{HostState}
 use Rattle.mr_values.specs.declared.plan.Plan.{Plan as Plan_}
 use Rattle.filter_core.specs.declared.fault.Fault.{Fault}
-use Rattle.filter_core.specs.declared.fault.Fault.TheVariants.{HostFault, Memory, FileTooLong, PlanRead, Tap, NotBuilt}
-use Rattle.filter_core.specs.declared.fault.Fault.TheVariants as fault
-use Rattle.filter_core.specs.declared.fault.FileKind.TheVariants as file
+use Rattle.filter_core.specs.declared.fault.Fault.TheVariants.{HostFault, Memory, NotBuilt}
 use Rattle.chain_build.specs.Built.{are_built}
 use Rattle.filter_core.specs.Ends.{IsStruckFor, call_of}
 use Rattle.filter_core.specs.CommandWords.{CommandWords, compile_words}

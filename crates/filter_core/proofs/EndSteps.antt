@@ -1,12 +1,11 @@
 -- How a command ends after a part of it that went well.
-use Rattle.std.proofs.Common.{◌≡◌, ◌∙◌, ℕ, List, Option, Some, None, IsTrue, inl, inr, sym, subst, ap}
-use Rattle.std.specs.FinMap.{get}
+use Rattle.std.proofs.Common.{◌≡◌, ◌∙◌, ℕ, List, Option, Some, None, IsTrue, inl, inr, subst}
 use Rattle.mr_values.specs.declared.host.HostCall.{HostCall}
 use Rattle.mr_values.specs.declared.host.FaultCounts.{FaultCounts}
 use Rattle.mr_values.specs.Faults.{IsRisen, count_of}
 use Rattle.mr_values.specs.Files.{Files}
 use Rattle.mr_values.specs.Host.{HostState}
-use Rattle.filter_core.specs.Ends.{IsBlamed, IsNone, IsMissing, IsStruckFor, EndsWith}
+use Rattle.filter_core.specs.Ends.{IsBlamed, IsMissing, IsStruckFor, EndsWith}
 
 blamed_after : (call : Option HostCall) (old middle new : HostState) → middle.faults ≡ old.faults → IsBlamed call middle new → IsBlamed call old new
 blamed_after None old middle new same blamed = blamed ∙ same

@@ -1,5 +1,5 @@
 -- Steps of `noble`.
-use Rattle.std.proofs.Common.{◌≡◌, ◌∙◌, ℕ, zero, suc, ◌<◌, ◌≤◌, ◌^◌, List, [], ◌∷◌, length, Some, Result, Ok, Err, ℤ, pos, negsuc, inl, inr, refl, ap, subst, arith}
+use Rattle.std.proofs.Common.{◌≡◌, ◌∙◌, ℕ, zero, suc, ◌<◌, ◌≤◌, ◌^◌, List, [], ◌∷◌, length, Result, Ok, Err, ℤ, pos, negsuc, inr, refl, ap, subst, arith}
 use Rattle.std.specs.Prelude.{All, IfOk, Vec}
 use Rattle.std.specs.declared.alloc.Global.{Global}
 use Rattle.mr_values.specs.declared.memory.Memory.{Memory as NoMemory}

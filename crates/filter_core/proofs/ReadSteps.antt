@@ -1,5 +1,5 @@
 -- Steps of reading PLAN and its tap files.
-use Rattle.std.proofs.Common.{◌≡◌, ◌∙◌, ℕ, ◌+◌, ◌<◌, ℤ, List, [], ◌∷◌, ◌++◌, length, take, drop, get_or, IsTrue, None, Result, Ok, Err, refl, sym, ap, subst}
+use Rattle.std.proofs.Common.{◌≡◌, ◌∙◌, ℕ, ◌+◌, ◌<◌, ℤ, List, [], ◌∷◌, ◌++◌, length, take, drop, get_or, IsTrue, None, Ok, Err, refl, sym, ap, subst}
 use Rattle.std.specs.Prelude.{Vec}
 use Rattle.std.specs.declared.alloc.Global.{Global}
 use Rattle.std.proofs.lemmas.List.{take_more, drop_more, take-append-drop}
@@ -14,7 +14,7 @@ use Rattle.plan_reader.specs.Tapped.{plan_tapped}
 use Rattle.filter_core.specs.declared.fault.Fault.{Fault}
 use Rattle.filter_core.specs.declared.fault.Fault.TheVariants as fault
 use Rattle.filter_core.specs.declared.fault.FileKind.TheVariants as file
-use Rattle.filter_core.specs.Ends.{IsThis, EndsWith, blamed_call}
+use Rattle.filter_core.specs.Ends.{IsThisFile, EndsWith, blamed_call}
 use Rattle.filter_core.specs.PlanFile.{HasTaps, Fills, IsReached, IsTapFile, last_name}
 use Rattle.filter_core.specs.Reading.{TapsAnswer, ReadsTaps, FillAnswer, ReadsTapFiles}
 use Rattle.filter_core.proofs.EndSteps.{ends_after}
@@ -73,7 +73,7 @@ told-next text i part tap_file taps start now later h at sofar struck reads =
     }
 
 pub taps-next : (text now_text next_text : PlanText) (i : ℕ) (tap_file : TapFile) (taps : Vec ℤ Global) (start now later : HostState) → TapsSoFar text i now_text start now → i < length text.files → get_or text.files i tap_file ≡ tap_file
-    → EndsWith (IsThis tap_file.name) None now later → (IsTrue now.tells → ReadsTaps tap_file (Ok taps) now later) → next_text.plan ≡ plan_tapped tap_file.element taps.items now_text.plan → next_text.files ≡ now_text.files
+    → EndsWith (IsThisFile tap_file.name) None now later → (IsTrue now.tells → ReadsTaps tap_file (Ok taps) now later) → next_text.plan ≡ plan_tapped tap_file.element taps.items now_text.plan → next_text.files ≡ now_text.files
     → TapsSoFar text (i + 1) next_text start later
 taps-next text now_text next_text i tap_file taps start now later sofar h at ended reads plan named = record {
   named = named ∙ sofar.named;
@@ -89,9 +89,9 @@ taps-ends text now_text i start now sofar = record { same_kind = sofar.same_kind
 
 -- a tap file wasn't read
 pub taps-stop-ends : (text now_text : PlanText) (i : ℕ) (tap_file : TapFile) (why : Fault) (start now later : HostState) → TapsSoFar text i now_text start now → i < length text.files → get_or text.files i tap_file ≡ tap_file
-    → EndsWith (IsThis tap_file.name) (blamed_call why) now later → EndsWith (IsTapFile text) (blamed_call why) start later
+    → EndsWith (IsThisFile tap_file.name) (blamed_call why) now later → EndsWith (IsTapFile text) (blamed_call why) start later
 taps-stop-ends text now_text i tap_file why start now later sofar h at ended =
-    ends_after (IsTapFile text) (IsTapFile text) (IsThis tap_file.name) (blamed_call why) start now later (taps-ends text now_text i start now sofar) ended
+    ends_after (IsTapFile text) (IsTapFile text) (IsThisFile tap_file.name) (blamed_call why) start now later (taps-ends text now_text i start now sofar) ended
     (λ told gone. (gone.0, (tap_file, reached-at start.files text i now_text.plan tap_file h at (sofar.told told).filled, gone.1), ap (λ (files : Files). get files gone.0) (sym (sofar.told told).files) ∙ gone.2))
 
 fill_refused : (text : PlanText) (files : Files) (tap_file : TapFile) (why : Fault) → IsReached files text tap_file → TapsAnswer tap_file files (Err why) → FillAnswer text files (Err why)

@@ -50,9 +50,9 @@ pub record AreOutputs (plan : List ℕ) (files : Files) (text report : List ℕ)
 abbrev pub HoldsBoth : List ℕ → List ℕ → List ℕ → List ℕ → Files → Files → Type 0
 HoldsBoth text report text_bytes report_bytes old new = new ≡ insert (insert old text text_bytes) report report_bytes
 
--- The command was done: PLAN and its tap files were read to their end and are accepted, TEXT reads as one module that shows, after any reset, for all samples
--- and clock enables, exactly the plan's chain at the reported latency and period and at no other tick, REPORT has the lines of the
--- report, and no other file has changed.
+-- The command was done: PLAN and its tap files were read to their end and are accepted, TEXT reads as one module that shows, after any
+-- reset, for all samples and clock enables, exactly the plan's chain at the reported latency and period and at no other tick, REPORT has
+-- the lines of the report, and no other file has changed.
 pub record IsCompiled (plan text report : List ℕ) (old new : HostState) : Type 0 where
   pub text_bytes : List ℕ
   pub report_bytes : List ℕ

@@ -25,11 +25,11 @@ IsBlamed (Some call) old new = IsRisen (count_of call old.faults) (count_of call
 
 -- ---- which files are to be read, by the files and a name
 
-abbrev pub IsNone : Files → List ℕ → Type 0
-IsNone files name = ⊥
+abbrev pub IsNoFile : Files → List ℕ → Type 0
+IsNoFile files name = ⊥
 
-abbrev pub IsThis : List ℕ → Files → List ℕ → Type 0
-IsThis file files name = name ≡ file
+abbrev pub IsThisFile : List ℕ → Files → List ℕ → Type 0
+IsThisFile file files name = name ≡ file
 
 -- a file that is to be read isn't there
 abbrev pub IsMissing : (Files → List ℕ → Type 0) → Files → Type 0

@@ -34,7 +34,8 @@ pub record IsOutput (plan : List ℕ) (files : Files) (bytes : List ℕ) : Type 
   pub accepted : IsAcceptedFile plan files meaning
   pub rewriting : IsRewriting meaning bytes
 
--- the command was done: PLAN and its tap files were read to their end and are accepted, OUT says the rewritten plan, and no other file has changed
+-- the command was done: PLAN and its tap files were read to their end and are accepted, OUT says the rewritten plan, and no other file has
+-- changed
 pub record IsRewritten (plan out : List ℕ) (old new : HostState) : Type 0 where
   pub bytes : List ℕ
   pub output : IsOutput plan old.files bytes

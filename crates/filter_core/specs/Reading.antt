@@ -1,5 +1,5 @@
 -- The steps of reading PLAN and its tap files.
-use Rattle.std.specs.Prelude.{◌≡◌, ℕ, ℤ, List, [], Some, None, Result, Ok, Err, Vec, OnOk}
+use Rattle.std.specs.Prelude.{◌≡◌, ℕ, ℤ, List, [], Some, Result, Ok, Err, Vec, OnOk}
 use Rattle.std.specs.declared.alloc.Global.{Global}
 use Rattle.mr_values.specs.Files.{Files}
 use Rattle.mr_values.specs.Host.{HostState, left_of}

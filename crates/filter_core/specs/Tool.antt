@@ -6,7 +6,7 @@ use Rattle.filter_core.specs.declared.fault.Fault.{Fault}
 use Rattle.filter_core.specs.declared.fault.Fault.TheVariants.{Usage, NotBuilt}
 use Rattle.filter_core.specs.CommandWords.{CommandWords, compile_words, noble_words}
 use Rattle.mr_values.specs.declared.plan.Plan.{Plan}
-use Rattle.filter_core.specs.Ends.{IsNone}
+use Rattle.filter_core.specs.Ends.{IsNoFile}
 use Rattle.filter_core.specs.PlanFile.{IsAcceptedFile, IsOfPlan}
 use Rattle.filter_core.specs.Noble.{NobleEnds}
 use Rattle.filter_core.specs.Compile.{CompileEnds, IsBuiltFile}
@@ -15,7 +15,7 @@ use Rattle.filter_core.specs.Compile.{CompileEnds, IsBuiltFile}
 abbrev pub IsReadFor : CommandWords → Files → List ℕ → Type 0
 IsReadFor (compile_words plan text report) = IsOfPlan plan
 IsReadFor (noble_words plan out) = IsOfPlan plan
-IsReadFor _ = IsNone
+IsReadFor _ = IsNoFile
 
 -- a command that isn't built makes no host call
 abbrev pub IsUnbuilt : CommandWords → Result (Unit {0}) Fault → HostState → HostState → Type 0
@@ -37,7 +37,7 @@ IsReady _ files = ⊥
 
 -- the same of words that may be no command
 abbrev pub IsReadBy : Option CommandWords → Files → List ℕ → Type 0
-IsReadBy None = IsNone
+IsReadBy None = IsNoFile
 IsReadBy (Some command) = IsReadFor command
 
 abbrev pub IsUnbuiltBy : Option CommandWords → Result (Unit {0}) Fault → HostState → HostState → Type 0

@@ -1,6 +1,6 @@
 // Plans and their tap files, read from a host, and which of them are accepted.
 ghost use Rattle.std.specs.Prelude.{◌≡◌, ◌≢◌, Err, IfOk, IsTrue};
-ghost use Rattle.filter_core.specs.Ends.{EndsWith, IsThis, call_of};
+ghost use Rattle.filter_core.specs.Ends.{EndsWith, IsThisFile, call_of};
 ghost use Rattle.filter_core.specs.PlanFaults.{fault_of_reading, fault_of_taps, fault_of_check};
 ghost use Rattle.filter_core.specs.PlanFile.{IsTapFile, IsOfPlan};
 ghost use Rattle.filter_core.specs.Reading.{TextAnswer, ReadsTaps, ReadsTapFiles, IsAcceptedPlan, CheckAnswer, ReadsPlan};
@@ -68,7 +68,7 @@ fn read_tap_files<H: Host>(alloc: Global, host: &mut H, mut text: PlanText) -> R
 }
 
 fn read_tap_file<H: Host>(alloc: Global, host: &mut H, file: &TapFile) -> Result<Vec<i64>, Fault>
-    ensures cause { EndsWith (IsThis file.now.name) (call_of result) (H.state host.old) (H.state host.new) }
+    ensures cause { EndsWith (IsThisFile file.now.name) (call_of result) (H.state host.old) (H.state host.new) }
     ensures command { result ≢ Err Fault.Usage }
     ensures told { IsTrue (H.state host.old).tells → ReadsTaps file.now result (H.state host.old) (H.state host.new) }
 {

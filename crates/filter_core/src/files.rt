@@ -1,6 +1,6 @@
 // Whole files, read from a host and written to it.
 ghost use Rattle.std.specs.Prelude.{◌≡◌, ◌≢◌, Err, IsTrue};
-ghost use Rattle.filter_core.specs.Ends.{EndsWith, IsNone, IsThis, call_of};
+ghost use Rattle.filter_core.specs.Ends.{EndsWith, IsNoFile, IsThisFile, call_of};
 ghost use Rattle.filter_core.specs.WholeFiles.{ReadsFile, WritesFile};
 
 use crate::{Fault, FileKind};
@@ -17,7 +17,7 @@ pub fn read_file<H: Host>(
     file: FileKind,
     limit: usize,
 ) -> Result<Vec<u8>, Fault>
-    ensures cause { EndsWith (IsThis name.now) (call_of result) (H.state host.old) (H.state host.new) }
+    ensures cause { EndsWith (IsThisFile name.now) (call_of result) (H.state host.old) (H.state host.new) }
     ensures command { result ≢ Err Fault.Usage }
     ensures output { (H.state host.new).has_output ≡ (H.state host.old).has_output }
     ensures told { IsTrue (H.state host.old).tells → ReadsFile name.now file limit result (H.state host.old) (H.state host.new) }
@@ -49,7 +49,7 @@ pub fn read_file<H: Host>(
 
 /// Writes a whole file.
 pub fn write_file<H: Host>(host: &mut H, name: &str, text: &[u8]) -> Result<(), Fault>
-    ensures cause { EndsWith IsNone (call_of result) (H.state host.old) (H.state host.new) }
+    ensures cause { EndsWith IsNoFile (call_of result) (H.state host.old) (H.state host.new) }
     ensures command { result ≢ Err Fault.Usage }
     ensures told { IsTrue (H.state host.old).tells → WritesFile name.now text.now result (H.state host.old) (H.state host.new) }
 {
