@@ -1,5 +1,5 @@
 -- The rows of a file, byte by byte.
-use Rattle.std.proofs.Common.{◌≡◌, ◌==◌, ◌∙◌, ℕ, suc, ◌+◌, ◌-◌, ◌<◌, ◌≤◌, ◌^◌, Bool, true, false, not, cond, List, [], ◌∷◌, ◌++◌, length, take, get_or, None, Err, Result, Option, refl, sym, ap, subst, append_assoc, append-nil, length-append, length-take, arith, nat_lt, nat_le}
+use Rattle.std.proofs.Common.{◌≡◌, ◌==◌, ◌∙◌, ℕ, suc, ◌+◌, ◌*◌, ◌-◌, ◌<◌, ◌≤◌, ◌^◌, Bool, true, false, not, cond, List, [], ◌∷◌, ◌++◌, length, take, get_or, None, Ok, Err, Result, Option, OnOk, refl, sym, ap, subst, append_assoc, append-nil, length-append, length-take, arith, nat_lt, nat_le}
 use Rattle.std.specs.List.{list_all, onto_first}
 use Rattle.std.proofs.lemmas.Bool.{false≢true, and_parts, lt-ltb, lt-leb}
 use Rattle.sample_file.specs.declared.fault.LineFault.{LineFault}
@@ -7,7 +7,7 @@ use Rattle.sample_file.specs.declared.fault.LineFault.TheVariants.{LongLine}
 use Rattle.sample_file.specs.declared.row.Row.{Row}
 use Rattle.sample_file.specs.Lines.{lines_of, line_before, content_of}
 use Rattle.sample_file.specs.Kept.{IsOneLine}
-use Rattle.sample_file.specs.Reading.{Place, rows_of, rows_from, row_then, no_rows, refused, line_row, unless}
+use Rattle.sample_file.specs.Reading.{Place, rows_of, rows_from, row_then, no_rows, refused, most_before, line_row, unless}
 
 -- ---- lines
 
@@ -130,3 +130,18 @@ rows-last old fields ended (b ∷ bs) line fault answer is none one some same an
     let row : answer ≡ line_row fields (suc ended) (b ∷ bs) = answered ∙ ap (λ (n : ℕ). line_row fields n line) next ∙ ap (line_row fields (suc ended)) same in
     here old fields ended (b ∷ bs) fault [] is none ∙ ap (λ (bytes : List ℕ). rows_of fields (suc ended) (lines_of bytes)) (append-nil (b ∷ bs)) ∙ ap (rows_of fields (suc ended)) (lines_of-last b bs one)
     ∙ ap (λ (a : Result (Option Row) LineFault). row_then a no_rows) (sym row)
+
+-- ---- bytes
+
+pub on-ok : {A E : Type 0} (r : Result A E) (P : Type 0) → P → OnOk r P
+on-ok (Ok x) P h = h
+on-ok (Err e) P h = tt
+
+-- a line that ends has fewer bytes than are counted for it
+pub bytes-ended : (old : Place) (fields ended : ℕ) (begun : List ℕ) (fault : Option LineFault) → record { fields = fields; ended = ended; begun = begun; fault = fault } ≡ old → length begun ≤ 4097
+    → most_before old + 1 ≤ most_before (record { fields = fields; ended = ended + 1; begun = []; fault = fault })
+bytes-ended old fields ended begun fault is within = subst (λ (p : Place). most_before p + 1 ≤ (ended + 1) * 4098 + 0) is (omega (arith, within))
+
+pub bytes-more : (old : Place) (fields ended : ℕ) (begun more : List ℕ) (fault : Option LineFault) → record { fields = fields; ended = ended; begun = begun; fault = fault } ≡ old → length begun + 1 ≤ length more
+    → most_before old + 1 ≤ most_before (record { fields = fields; ended = ended; begun = more; fault = fault })
+bytes-more old fields ended begun more fault is within = subst (λ (p : Place). most_before p + 1 ≤ ended * 4098 + length more) is (omega (arith, within))

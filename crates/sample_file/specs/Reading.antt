@@ -1,5 +1,5 @@
 -- The rows of a file, line by line, up to the first refused line.
-use Rattle.std.specs.Prelude.{ℕ, suc, ◌^◌, ◌==◌, nat_lt, nat_le, ℤ, not, if◌then◌else◌, List, [], ◌∷◌, ◌++◌, length, Option, None, Some, Result, Ok, Err}
+use Rattle.std.specs.Prelude.{ℕ, suc, ◌+◌, ◌*◌, ◌^◌, ◌==◌, nat_lt, nat_le, ℤ, not, if◌then◌else◌, List, [], ◌∷◌, ◌++◌, length, Option, None, Some, Result, Ok, Err}
 use Rattle.std.specs.List.{list_all}
 use Rattle.sample_file.specs.declared.fault.LineFault.{LineFault}
 use Rattle.sample_file.specs.declared.fault.LineFault.TheVariants.{NotNumber, OutOfRange, Fields, LongLine, TooManyLines}
@@ -78,3 +78,7 @@ unless (Some fault) reading = refused fault
 -- the rows from a place on, where these bytes follow
 abbrev pub rows_from : Place → List ℕ → Reading
 rows_from place bytes = unless place.fault (rows_of place.fields (suc place.ended) (lines_of (place.begun ++ bytes)))
+
+-- the most bytes that may stand before a place: a line has at most 4,098 with its end
+abbrev pub most_before : Place → ℕ
+most_before place = place.ended * 4098 + length place.begun

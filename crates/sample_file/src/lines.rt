@@ -1,7 +1,7 @@
 // A file of rows, in pieces.
 ghost use Rattle.std.specs.Prelude.{◌≡◌, ◌≤◌, ◌<◌, ◌-◌, ◌+◌, ◌^◌, ◌⊎◌, ℕ, List, [], ◌∷◌, ◌++◌, length, drop, take, true, Some, None, Ok, Err, slice_get, IfOk, IfErr, IfSome, IfNone, OnSome, OnOk};
 ghost use Rattle.std.specs.Option.{option_to_list};
-ghost use Rattle.sample_file.specs.Reading.{Place, start, rows_from, row_then, no_rows, refused};
+ghost use Rattle.sample_file.specs.Reading.{Place, start, rows_from, row_then, no_rows, refused, most_before};
 
 use crate::fault::LineFault;
 use crate::line::{LINES, line_row};
@@ -67,6 +67,8 @@ impl Lines {
         ensures ended { IfOk result (λ found. self.old.ended + length (option_to_list found) ≤ self.new.ended) }
         ensures more { self.old.ended ≤ self.new.ended }
         ensures few { self.new.ended < 2 ^ 32 }
+        ensures bytes { OnOk result (most_before self.old + 1 ≤ most_before self.new) }
+        ensures bound { length self.new.begun ≤ 4097 }
     {
         if self.ended + 1 >= LINES {
             return Err(LineFault::TooManyLines);
@@ -98,6 +100,8 @@ impl Lines {
         ensures ended { IfOk result (λ found. self.old.ended + length (option_to_list found) ≤ self.new.ended) }
         ensures more { self.old.ended ≤ self.new.ended }
         ensures few { self.new.ended < 2 ^ 32 }
+        ensures bytes { OnOk result (most_before self.old + 1 ≤ most_before self.new) }
+        ensures bound { length self.new.begun ≤ 4097 }
     {
         let answer = self.add(byte);
         if let Err(fault) = answer {
@@ -119,6 +123,10 @@ impl Lines {
         ensures ended { IfOk result (λ step. self.old.ended + length (option_to_list step.found) ≤ self.new.ended) }
         ensures more { self.old.ended ≤ self.new.ended }
         ensures few { self.new.ended < 2 ^ 32 }
+
+        // So the bytes of a file that isn't refused are bounded.
+        ensures bytes { IfOk result (λ step. most_before self.old + step.taken ≤ most_before self.new) }
+        ensures bound { length self.new.begun ≤ 4097 }
 
         ensures fault { IfErr result (λ fault. (rest : List ℕ) → rows_from self.old (piece.now ++ rest) ≡ refused fault) }
         ensures kept { IfErr result (λ fault. self.new.fault ≡ Some fault) }

@@ -3,3 +3,4 @@ pub mod SignSteps
 pub mod StreamSteps
 pub mod StartSteps
 pub mod Whole
+pub mod OneText

@@ -1,3 +1,4 @@
 pub mod Given
 pub mod Stream
 pub mod Ends
+pub mod Laws

@@ -3,7 +3,9 @@
 
 mod cycle;
 mod fault;
+mod laws;
 mod stream;
 
 pub use fault::StreamFault;
+pub use laws::law_of_one_text;
 pub use stream::SimStream;

@@ -1,7 +1,8 @@
 // A simulation of a stimulus that comes in pieces.
-ghost use Rattle.std.specs.Prelude.{◌≡◌, ◌≤◌, ◌<◌, ◌+◌, ◌⊎◌, ◌++◌, length, IfOk, OnOk};
+ghost use Rattle.std.specs.Prelude.{◌≡◌, ◌≤◌, ◌<◌, ◌+◌, ◌^◌, ◌⊎◌, ◌++◌, length, IfOk, OnOk};
 ghost use Rattle.verilog_tree.specs.View.{design_view};
 ghost use Rattle.clock_sim.specs.Sim.{IsSound, register_count};
+ghost use Rattle.sample_file.specs.Reading.{most_before};
 ghost use Rattle.sim_stream.specs.Stream.{IsStart};
 ghost use Rattle.sim_stream.specs.Ends.{Advances, Finishes};
 
@@ -59,6 +60,8 @@ impl<'a> SimStream<'a> {
         ensures ends { Advances self.old piece.now out.old.items result self.new out.new.items }
         ensures within { IfOk result (λ taken. taken ≤ length piece.now) }
         ensures some { 0 < length piece.now → IfOk result (λ taken. 0 < taken) }
+        ensures bytes { IfOk result (λ taken. most_before self.old.place + taken ≤ most_before self.new.place) }
+        ensures bound { OnOk result (most_before self.new.place ≤ 2 ^ 45) }
         ensures short { length out.new.items ≤ length out.old.items + 124 }
     {
         let step = self.lines.take(piece)?;
@@ -100,6 +103,10 @@ impl<'a> SimStream<'a> {
         ensures all { IfOk result (λ taken. (taken ≡ length piece.now) ⊎ (65412 < length out.new.items)) }
         ensures some { 0 < length piece.now → length out.old.items ≤ 65412 → IfOk result (λ taken. 0 < taken) }
         ensures short { length out.old.items ≤ 65536 → length out.new.items ≤ 65536 }
+
+        // So the bytes of a stimulus that isn't refused are bounded.
+        ensures bytes { IfOk result (λ taken. most_before self.old.place + taken ≤ most_before self.new.place) }
+        ensures bound { IfOk result (λ taken. 0 < taken → most_before self.new.place ≤ 2 ^ 45) }
     {
         let mut taken = 0;
         'rows: while taken < piece.len() && out.len() <= FULL {

@@ -16,6 +16,8 @@ rows-preserved c =
     let ends = subst (λ (left : List ℕ). Advances c.rows.self left c.rows.out.items (Ok c.in_ok-taken.field-0) c.turn.new.self c.turn.new.out.items) c.split_at.ensures.back c.in_ok-taken.ensures.ends in
     record {
       ends = advanced c.args.self.now c.rows.self c.turn.new.self c.args.piece.now c.rows.taken c.in_ok-taken.field-0 c.args.out.now.items c.rows.out.items c.turn.new.out.items c.rows.invariant.ends ends;
+      bytes = omega (arith, c.rows.invariant.bytes, c.in_ok-taken.ensures.bytes);
+      bound = λ h. c.in_ok-taken.ensures.bound;
       within = omega (arith, c.in_ok-taken.ensures.within, c.split_at.ensures.back_len);
       none = λ zero. absurd (omega (arith, zero, c.in_ok-taken.ensures.some (omega (arith, c.split_at.ensures.back_len, c.rows-test.true))));
       short = λ h. omega (arith, c.turn.ensures.short, c.rows.out.ok.0, c.len.ensures, c.if-len-le-FULL.true);

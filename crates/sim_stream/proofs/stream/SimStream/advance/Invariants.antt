@@ -1,10 +1,13 @@
-use Rattle.std.proofs.Common.{◌≡◌, ◌≤◌, ◌-◌, Ok, length}
+use Rattle.std.proofs.Common.{◌≡◌, ◌≤◌, ◌<◌, ◌+◌, ◌^◌, ◌-◌, Ok, length}
+use Rattle.sample_file.specs.Reading.{most_before}
 use Rattle.sim_stream.specs.Ends.{Advances}
 use Rattle.sim_stream.proofs.stream.SimStream.advance.Given as goal
 
 abbrev pub invariant-rows : goal.invariant-rows
 invariant-rows l = record {
   ends : Advances l.initial.self l.piece l.initial.out.items (Ok l.taken) l.self l.out.items;
+  bytes : most_before l.initial.self.place + l.taken ≤ most_before l.self.place;
+  bound : 0 < l.taken → most_before l.self.place ≤ 2 ^ 45;
   within : l.taken ≤ length l.piece;
   none : l.taken ≡ 0 → l.out.items ≡ l.initial.out.items;
   short : length l.initial.out.items ≤ 65536 → length l.out.items ≤ 65536;
