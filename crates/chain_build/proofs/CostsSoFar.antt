@@ -49,9 +49,10 @@ pub same_costs : (number : ℕ) (gs : List Group) (costs : List Cost) (old new :
 same_costs number [] [] old new some same are = tt
 same_costs number [] (c ∷ costs) old new some same are = are
 same_costs number (g ∷ gs) [] old new some same are = are
-same_costs number (g ∷ gs) (c ∷ costs) old new some same are =
-    (same_cost g number old new c some (same number (omega arith) (omega arith)) are.0,
-    same_costs (number + 1) gs costs old new (omega arith) (λ k low high. same k (omega (arith, low)) (omega (arith, high))) are.1)
+same_costs number (g ∷ gs) (c ∷ costs) old new some same are = (
+  same_cost g number old new c some (same number (omega arith) (omega arith)) are.0,
+  same_costs (number + 1) gs costs old new (omega arith) (λ k low high. same k (omega (arith, low)) (omega (arith, high))) are.1,
+)
 
 costs_with : (number : ℕ) (gs : List Group) (costs : List Cost) (g : Group) (c : Cost) (cells : List Cell) → AreCostsOf number gs costs cells → IsCostOf g (number + length gs) cells c → AreCostsOf number (gs ++ g ∷ []) (costs ++ c ∷ []) cells
 costs_with number [] [] g c cells are is = (subst (λ (n : ℕ). IsCostOf g n cells c) (let e : number + 0 ≡ number = omega arith in e) is, tt)

@@ -103,8 +103,8 @@ module _ {old new : NetView} (grows : Grows old new) (names : LeavesFree old.cel
         by None e = refl
         by (Some name) e =
             false_unless (nat_eq name.group group && is name.kind) (λ t.
-              let parts = both_of (nat_eq name.group group) (is name.kind) t in
-              no_name kind data_kind place cell name there e (only name.kind parts.1) (eqb-true name.group group parts.0) (λ k before at same named. was k before name at same named))
+            let parts = both_of (nat_eq name.group group) (is name.kind) t in
+            no_name kind data_kind place cell name there e (only name.kind parts.1) (eqb-true name.group group parts.0) (λ k before at same named. was k before name at same named))
 
     kept_name : (place : ℕ) (cell later : Cell) → slice_get old.cells place ≡ Some cell → slice_get new.cells place ≡ Some later → one_if (has_kind is group later.name) ≡ one_if (has_kind is group cell.name)
     kept_name place cell later at there = by cell.name refl
@@ -169,7 +169,7 @@ no_names is cells group never = total_none (λ (c : Cell). one_if (has_kind is g
         by None e = refl
         by (Some name) e =
             ap one_if (false_unless (nat_eq name.group group && is name.kind) (λ t.
-              let parts = both_of (nat_eq name.group group) (is name.kind) t in never place cell name at e (eqb-true name.group group parts.0) parts.1))
+            let parts = both_of (nat_eq name.group group) (is name.kind) t in never place cell name at e (eqb-true name.group group parts.0) parts.1))
 
 pub no_windows : (cells : List Cell) (group : ℕ) → ((name : Name) → (name.kind ≡ Control → ⊥) → name.group ≡ group → IsFree cells name) → windows_in group cells ≡ 0
 no_windows cells group free = no_names is_window cells group (λ place cell name at is of_group of_kind. (free name (λ control. let e : false ≡ true = sym (ap is_window control) ∙ of_kind in absurd (cc)) of_group).none place cell at is)

@@ -114,7 +114,7 @@ module _ (cells : List Cell) (counts : CountsAs cells) (d : Design) (same : IsSa
       counts = same_counts d (written_module cells) same number ∙ counts.each number some (omega (arith, low))
           ∙ (λ i. record { adders = are.0.adders_in i; windows = are.0.windows_in i; tables = are.0.tables_in i });
     },
-    are_counted (number + 1) gs costs (omega arith) (omega (arith, low)) are.1
+    are_counted (number + 1) gs costs (omega arith) (omega (arith, low)) are.1,
   )
 
 pub chain_counted : (es : List Element) (costs : List Cost) (cells : List Cell) → length es ≤ 32 → IsNetlist cells → AreSmall cells → HasCosts (groups es) costs cells → (d : Design) → IsSameButPlaces d (written_module cells) → AreCounted 1 (groups es) d

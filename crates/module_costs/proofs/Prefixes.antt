@@ -49,7 +49,7 @@ in_group_is g letter number group small low =
     bool_same (is_in_group group (shape_text (InGroup g letter number))) (nat_eq g group)
     (λ e. eq-eqb g group (same_group g group (letter ∷ decimal number) (drop (length (group_prefix group)) (shape_text (InGroup g letter number))) small low (rest_of (shape_text (InGroup g letter number)) (group_prefix group) e)).0)
     (λ e. begins (shape_text (InGroup g letter number)) (group_prefix group) (letter ∷ decimal number)
-      (ap (λ (k : ℕ). 115 ∷ (decimal k ++ 95 ∷ letter ∷ decimal number)) (eqb-true g group e) ∙ sym (grouped group (letter ∷ decimal number))))
+    (ap (λ (k : ℕ). 115 ∷ (decimal k ++ 95 ∷ letter ∷ decimal number)) (eqb-true g group e) ∙ sym (grouped group (letter ∷ decimal number))))
 
 abbrev pub is_shape_in : ℕ → Shape → Bool
 is_shape_in group (Ctl number) = false
@@ -99,8 +99,8 @@ numbered_is g l number group letter small few low =
     back e =
         let p = parts (nat_eq g group) (nat_eq l letter) e in
         let is : shape_text (InGroup g l number) ≡ (group_prefix group ++ letter ∷ []) ++ decimal number = (
-          ap (λ (k : ℕ). 115 ∷ (decimal k ++ 95 ∷ l ∷ decimal number)) (eqb-true g group p.0) ∙ ap (λ (m : ℕ). 115 ∷ (decimal group ++ 95 ∷ m ∷ decimal number)) (eqb-true l letter p.1)
-          ∙ sym (grouped group (letter ∷ decimal number)) ∙ sym (lettered group letter (decimal number))
+        ap (λ (k : ℕ). 115 ∷ (decimal k ++ 95 ∷ l ∷ decimal number)) (eqb-true g group p.0) ∙ ap (λ (m : ℕ). 115 ∷ (decimal group ++ 95 ∷ m ∷ decimal number)) (eqb-true l letter p.1)
+        ∙ sym (grouped group (letter ∷ decimal number)) ∙ sym (lettered group letter (decimal number))
         ) in
         both (starts_with nat_eq (shape_text (InGroup g l number)) (group_prefix group ++ letter ∷ [])) (is_number (drop (length (group_prefix group ++ letter ∷ [])) (shape_text (InGroup g l number))))
         (begins (shape_text (InGroup g l number)) (group_prefix group ++ letter ∷ []) (decimal number) is)

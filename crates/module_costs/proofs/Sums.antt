@@ -265,10 +265,10 @@ module _ (cells : List Cell) (netlist : IsNetlist cells) (small : AreSmall cells
       let second : Assignment = record { target = 6; value = NameTree (N (output_place cells)) } in
       let rest = node_assigns N cells 0 in
       let heads : sum_by assigned D.assigns ≡ sum_by assigned rest = (
-        sum_by-cons assigned first (second ∷ rest) ∙ ap (λ (n : ℕ). n + sum_by assigned (second ∷ rest)) valid
-        ∙ (let e : 0 + sum_by assigned (second ∷ rest) ≡ sum_by assigned (second ∷ rest) = omega arith in e)
-        ∙ sum_by-cons assigned second rest ∙ ap (λ (n : ℕ). n + sum_by assigned rest) output
-        ∙ (let e : 0 + sum_by assigned rest ≡ sum_by assigned rest = omega arith in e)
+      sum_by-cons assigned first (second ∷ rest) ∙ ap (λ (n : ℕ). n + sum_by assigned (second ∷ rest)) valid
+      ∙ (let e : 0 + sum_by assigned (second ∷ rest) ≡ sum_by assigned (second ∷ rest) = omega arith in e)
+      ∙ sum_by-cons assigned second rest ∙ ap (λ (n : ℕ). n + sum_by assigned rest) output
+      ∙ (let e : 0 + sum_by assigned rest ≡ sum_by assigned rest = omega arith in e)
       ) in
       omega (arith, assigns, blocks, nodes, none, heads)
 
@@ -331,7 +331,7 @@ module _ (cells : List Cell) (netlist : IsNetlist cells) (small : AreSmall cells
       by None m = refl
       by (Some name) m =
           false_unless (nat_eq name.group group && is_window name.kind) (λ e.
-            let r = window_register name.kind name.group name.number cell.item s m (second_of (nat_eq name.group group) (is_window name.kind) e) in absurd (cc))
+          let r = window_register name.kind name.group name.number cell.item s m (second_of (nat_eq name.group group) (is_window name.kind) e) in absurd (cc))
 
   -- a register is no table
   no_table_register : (cell : Cell) → IsNamed cell.name cell.item → is_register cell.item ≡ true → has_kind is_table group cell.name ≡ false

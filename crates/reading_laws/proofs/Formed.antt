@@ -183,8 +183,9 @@ module _ (count : ℕ) where
         let items = formed_items t.items (worded word.EndModule []) are ports.1.1.1 in
         record {
           name = known.1.0;
-          signals =
-              (formed_signal (direction_kind t.port.direction) t.port.shape t.port.name port.0 port.1,
-              all_both (IsFormedSignal count) (port_signals t.port t.ports) (items_signals t.items) ports.0 items.signals);
+          signals = (
+            formed_signal (direction_kind t.port.direction) t.port.shape t.port.name port.0 port.1,
+            all_both (IsFormedSignal count) (port_signals t.port t.ports) (items_signals t.items) ports.0 items.signals,
+          );
           items = items;
         }

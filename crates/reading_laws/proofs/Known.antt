@@ -112,9 +112,10 @@ name_behind before p rest text is =
 
 known_lexemes : (all before : List (List ℕ)) (pieces : List Placed) → names_behind before pieces ≡ all → AreGoodPieces pieces → AreKnownLexemes (length all) (map (λ (x : Placed). lexeme_in all x.piece) pieces)
 known_lexemes all before [] is good = tt
-known_lexemes all before (x ∷ rest) is good =
-    (known_piece all x.piece good.0 (λ text e. subst (λ (ns : List (List ℕ)). number_in ns text < length ns) is (name_behind before x.piece rest text e)),
-    known_lexemes all (with_piece before x.piece) rest is good.1)
+known_lexemes all before (x ∷ rest) is good = (
+  known_piece all x.piece good.0 (λ text e. subst (λ (ns : List (List ℕ)). number_in ns text < length ns) is (name_behind before x.piece rest text e)),
+  known_lexemes all (with_piece before x.piece) rest is good.1,
+)
 
 inside_known : (count : ℕ) (ts : List Token) → AreKnownLexemes count (map Inside ts) → AreKnown count ts
 inside_known count [] known = tt

@@ -127,8 +127,8 @@ good_slashed [] = tt
 good_slashed (a ∷ rest) =
     cond_both (a == 47) _ _ IsGood (λ e. cond_both (list_all (λ b. not (b == 10)) rest) (Some Gap) None IsGood (λ f. tt) (λ f. tt))
     (λ e. cond_both (a == 42) _ None IsGood
-      (λ f. cond_both (is_ended rest) (Some Gap) _ IsGood (λ g. tt) (λ g. cond_both (is_open rest) (Some UnreadablePiece) None IsGood (λ h. tt) (λ h. tt)))
-      (λ f. tt))
+    (λ f. cond_both (is_ended rest) (Some Gap) _ IsGood (λ g. tt) (λ g. cond_both (is_open rest) (Some UnreadablePiece) None IsGood (λ h. tt) (λ h. tt)))
+    (λ f. tt))
 
 -- ---- pieces
 

@@ -7,8 +7,10 @@ use Rattle.chain_build.proofs.SoFar.{SoFar-plan, SoFar-next, SoFar-end, SoFar-no
 use Rattle.chain_build.proofs.groups.add_groups.Goals as goal
 
 pub loop-fact-init : goal.loop-fact-init
-loop-fact-init c = (SoFar-plan c.args.plan.now c.args.facts.now c.args.net.now c.set_group.new.self c.args.from c.as_slice-rest.result.now c.as_slice-rest.ensures c.requires.within c.requires.nameless c.requires.offset c.requires.period c.requires.accepted c.requires.are_facts c.requires.built c.set_group.ensures,
-    CostsSoFar-first (groups c.args.plan.now.elements) (groups c.as_slice-rest.result.now) c.args.net.now c.set_group.new.self c.new-costs.result.items (ap groups c.as_slice-rest.ensures) c.set_group.ensures c.new-costs.ensures.items c.requires.bound c.requires.ungrouped c.requires.nameless)
+loop-fact-init c = (
+  SoFar-plan c.args.plan.now c.args.facts.now c.args.net.now c.set_group.new.self c.args.from c.as_slice-rest.result.now c.as_slice-rest.ensures c.requires.within c.requires.nameless c.requires.offset c.requires.period c.requires.accepted c.requires.are_facts c.requires.built c.set_group.ensures,
+  CostsSoFar-first (groups c.args.plan.now.elements) (groups c.as_slice-rest.result.now) c.args.net.now c.set_group.new.self c.new-costs.result.items (ap groups c.as_slice-rest.ensures) c.set_group.ensures c.new-costs.ensures.items c.requires.bound c.requires.ungrouped c.requires.nameless,
+)
 
 pub unreachable-requires : goal.unreachable-requires
 unreachable-requires c = so_none c.args.facts.now.groups.items c.loop-fact.fact-index c.loop-fact.invariant.0 (omega (arith, c.deref-fact-items.ensures.len)) c.in_default.ensures
@@ -30,9 +32,10 @@ add_group-requires-clause-room c = room_in (so_at c.args.facts.now.groups.items 
 
 pub loop-fact-preserved : goal.loop-fact-preserved
 loop-fact-preserved c = (
-    SoFar-next (so_at c.args.facts.now.groups.items c.loop-fact.fact-index c.loop-fact.invariant.0 _ _ (omega (arith, c.deref-fact-items.ensures.len)) (ap (λ (xs : List GroupFacts). get_or xs c.loop-fact.fact-index _) c.deref-fact-items.ensures.value)) c.in-Some.ensures c.set_group-in-loop-fact.new.self c.in_ok-added.added _ _ c.ranges_before-ranges.ensures.low c.ranges_before-ranges.ensures.high c.set_group-in-loop-fact.ensures c.in_ok-added.ensures.ok,
-    subst (λ (costs : List Cost). CostsSoFar (groups c.args.plan.now.elements) c.add_group.new.net.cells (groups c.in-Some.others.now) costs (c.loop-fact.number + 1)) (sym c.in_ok-push.ensures.items)
-    (CostsSoFar-next c.loop-fact.invariant.1 c.in-Some.ensures.parts (λ name data_kind more. c.loop-fact.invariant.0.names name data_kind (inl more)) c.set_group-in-loop-fact.new.self _ c.loop-fact.last c.in_ok-added.added c.set_group-in-loop-fact.ensures c.in_ok-added.ensures.ok))
+  SoFar-next (so_at c.args.facts.now.groups.items c.loop-fact.fact-index c.loop-fact.invariant.0 _ _ (omega (arith, c.deref-fact-items.ensures.len)) (ap (λ (xs : List GroupFacts). get_or xs c.loop-fact.fact-index _) c.deref-fact-items.ensures.value)) c.in-Some.ensures c.set_group-in-loop-fact.new.self c.in_ok-added.added _ _ c.ranges_before-ranges.ensures.low c.ranges_before-ranges.ensures.high c.set_group-in-loop-fact.ensures c.in_ok-added.ensures.ok,
+  subst (λ (costs : List Cost). CostsSoFar (groups c.args.plan.now.elements) c.add_group.new.net.cells (groups c.in-Some.others.now) costs (c.loop-fact.number + 1)) (sym c.in_ok-push.ensures.items)
+      (CostsSoFar-next c.loop-fact.invariant.1 c.in-Some.ensures.parts (λ name data_kind more. c.loop-fact.invariant.0.names name data_kind (inl more)) c.set_group-in-loop-fact.new.self _ c.loop-fact.last c.in_ok-added.added c.set_group-in-loop-fact.ensures c.in_ok-added.ensures.ok),
+)
 
 pub returns : goal.returns
 returns c = record { ok = SoFar-end (so_all c.args.facts.now.groups.items c.loop-fact.fact-index c.loop-fact.invariant.0 (omega (arith, c.deref-fact-items.ensures.len))); costs = CostsSoFar-end c.loop-fact.invariant.1 (SoFar-none (so_all c.args.facts.now.groups.items c.loop-fact.fact-index c.loop-fact.invariant.0 (omega (arith, c.deref-fact-items.ensures.len)))) }

@@ -7,6 +7,6 @@ use Rattle.chain_build.proofs.groups.add_groups.Given as goal
 
 -- the groups before are added, and those that are left pass the tests
 abbrev pub invariant-loop-fact : goal.invariant-loop-fact
-invariant-loop-fact l = 
+invariant-loop-fact l =
     SoFar (size l.plan.width) (size l.plan.ticks) l.plan.elements l.fn.net l.net l.fn.from l.last l.rest (drop l.fact-index l.facts.groups.items) l.number
     × CostsSoFar (groups l.plan.elements) l.net.cells (groups l.rest) l.costs.items l.number
