@@ -1,0 +1,9 @@
+//! Texts as modules that pass the checks.
+#![tactic(auto)]
+
+mod reader;
+
+pub use reader::read_text;
+
+#[cfg(test)]
+mod tests;
