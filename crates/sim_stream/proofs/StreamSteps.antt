@@ -9,8 +9,8 @@ use Rattle.sample_file.specs.declared.row.Row.{Row}
 use Rattle.sample_file.specs.Reading.{Place, Reading, rows_from, row_then, no_rows, refused}
 use Rattle.sample_file.specs.Ranges.{item_then}
 use Rattle.clock_sim.specs.Simulated.{values_of}
-use Rattle.sim_stream.specs.declared.fault.StreamFault.{StreamFault}
-use Rattle.sim_stream.specs.declared.fault.StreamFault.TheVariants.{Line, Memory}
+use Rattle.row_stream.specs.declared.fault.StreamFault.{StreamFault}
+use Rattle.row_stream.specs.declared.fault.StreamFault.TheVariants.{Line, Memory}
 use Rattle.sim_stream.specs.Given.{Gives, cycles_for}
 use Rattle.sim_stream.specs.Stream.{Midst, GivesFrom, Continues}
 use Rattle.sim_stream.specs.Ends.{RunsCycle, CycleEnds, Advances, Finishes, cycle_in}

@@ -8,8 +8,8 @@ use Rattle.sample_file.specs.declared.fault.LineFault.{LineFault}
 use Rattle.sample_file.specs.declared.ranges.Stimulus.{Stimulus}
 use Rattle.sample_file.specs.declared.row.Row.{Row}
 use Rattle.sample_file.specs.Ranges.{Checked, item_then, stimulus_of}
-use Rattle.sim_stream.specs.declared.fault.StreamFault.{StreamFault}
-use Rattle.sim_stream.specs.declared.fault.StreamFault.TheVariants.{Line, Memory}
+use Rattle.row_stream.specs.declared.fault.StreamFault.{StreamFault}
+use Rattle.row_stream.specs.declared.fault.StreamFault.TheVariants.{Line, Memory}
 use Rattle.sim_stream.specs.Given.{Gives}
 use Rattle.sim_stream.specs.Stream.{Midst, GivesFrom, Continues}
 

@@ -8,9 +8,9 @@ ghost use Rattle.clock_sim.specs.Simulated.{values_of};
 ghost use Rattle.sim_stream.specs.Given.{cycle_at, printed_events};
 ghost use Rattle.sim_stream.specs.Ends.{CycleEnds};
 
-use crate::fault::StreamFault;
 use clock_sim::{PortShape, Sim};
 use mr_values::Memory;
+use row_stream::StreamFault;
 use sample_file::{Row, Stimulus, put_row, stimulus_of};
 use std::alloc::Global;
 

@@ -2,10 +2,9 @@
 #![tactic(auto)]
 
 mod cycle;
-mod fault;
 mod laws;
 mod stream;
 
-pub use fault::StreamFault;
 pub use laws::law_of_one_text;
+pub use row_stream::StreamFault;
 pub use stream::SimStream;

@@ -7,9 +7,9 @@ ghost use Rattle.sim_stream.specs.Stream.{IsStart};
 ghost use Rattle.sim_stream.specs.Ends.{Advances, Finishes};
 
 use crate::cycle::run_cycle;
-use crate::fault::StreamFault;
 use clock_sim::Sim;
 use mr_values::Memory;
+use row_stream::StreamFault;
 use sample_file::Lines;
 use std::alloc::Global;
 use std::marker::Model;

@@ -1,4 +1,4 @@
-// Why a simulation of a stimulus ends early.
+// Why a stream of rows ends early.
 use mr_values::Memory;
 use sample_file::LineFault;
 
@@ -11,7 +11,7 @@ pub enum StreamFault {
 
 impl From<LineFault> for StreamFault {
     ghost use Rattle.std.specs.Prelude.{◌≡◌};
-    ghost use Rattle.sim_stream.specs.declared.fault.StreamFault.TheVariants.{Line};
+    ghost use Rattle.row_stream.specs.declared.fault.StreamFault.TheVariants.{Line};
 
     ghost from_gives = { λ fault result. result ≡ Line fault };
 
@@ -22,7 +22,7 @@ impl From<LineFault> for StreamFault {
 
 impl From<Memory> for StreamFault {
     ghost use Rattle.std.specs.Prelude.{◌≡◌};
-    ghost use Rattle.sim_stream.specs.declared.fault.StreamFault.TheVariants as fault;
+    ghost use Rattle.row_stream.specs.declared.fault.StreamFault.TheVariants as fault;
 
     ghost from_gives = { λ _ result. result ≡ fault.Memory };
 
