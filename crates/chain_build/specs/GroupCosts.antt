@@ -4,11 +4,13 @@ use Rattle.mr_values.specs.Timing.{Group}
 use Rattle.net_graph.specs.declared.cell.Cell.{Cell}
 use Rattle.net_graph.specs.declared.name.Name.{Name}
 use Rattle.net_graph.specs.Count.{adders_in, windows_in, tables_in}
+use Rattle.net_graph.specs.Depth.{IsShallow}
 use Rattle.stage_law.specs.Facts.{StageFacts}
 use Rattle.stage_law.specs.declared.stage.Cost.{Cost}
 use Rattle.chain_build.specs.Added.{HasFacts}
 
--- this is the cost of the plan's group as a stage, and of the net's group of this number
+-- this is the cost of the plan's group as a stage, and of the net's group of this number, in which at most one adder stands between two
+-- registers
 pub record IsCostOf (g : Group) (number : ℕ) (cells : List Cell) (cost : Cost) : Type 0 where
   pub facts : StageFacts
   pub has_facts : HasFacts g facts
@@ -18,6 +20,7 @@ pub record IsCostOf (g : Group) (number : ℕ) (cells : List Cell) (cost : Cost)
   pub adders_in : adders_in number cells ≡ facts.adders
   pub windows_in : windows_in number cells ≡ facts.windows
   pub tables_in : tables_in number cells ≡ facts.tables
+  pub shallow : IsShallow cells number
 
 -- these are the costs of the groups, numbered from here
 abbrev pub AreCostsOf : ℕ → List Group → List Cost → List Cell → Type 0
