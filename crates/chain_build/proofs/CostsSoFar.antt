@@ -1,5 +1,5 @@
 -- What the groups that were added so far cost.
-use Rattle.std.proofs.Common.{◌≡◌, ℕ, zero, suc, ◌+◌, ◌<◌, ◌≤◌, ◌⊎◌, List, [], ◌∷◌, ◌++◌, length, Some, slice_get, refl, sym, ◌∙◌, ap, subst, arith, inl, inr, append_assoc, append-nil}
+use Rattle.std.proofs.Common.{◌≡◌, ℕ, suc, ◌+◌, ◌<◌, ◌≤◌, ◌⊎◌, List, [], ◌∷◌, ◌++◌, length, Some, slice_get, refl, sym, ◌∙◌, ap, subst, arith, inl, inr, append_assoc, append-nil}
 use Rattle.std.proofs.lemmas.Bool.{cases_lt}
 use Rattle.mr_values.specs.Timing.{Group, Fir, DownCic, UpCic, Rounding}
 use Rattle.net_graph.specs.declared.cell.Cell.{Cell}
@@ -8,7 +8,7 @@ use Rattle.net_graph.specs.declared.name.Name.{Name}
 use Rattle.net_graph.specs.declared.name.NameKind.TheVariants.{Control}
 use Rattle.net_graph.specs.Cells.{NetView, cell_at}
 use Rattle.net_graph.specs.Count.{adders_in, windows_in, tables_in}
-use Rattle.net_graph.specs.Grow.{Extends, Grows}
+use Rattle.net_graph.specs.Grow.{Grows}
 use Rattle.net_graph.specs.WellFormed.{IsBound, IsFree}
 use Rattle.net_graph.specs.Depth.{IsShallow, IsUntouched}
 use Rattle.net_graph.proofs.CellLemmas.{cell_at-there, same_cell}
@@ -20,7 +20,7 @@ use Rattle.stage_law.specs.Streams.{Streams}
 use Rattle.stage_law.specs.declared.stage.Cost.{Cost}
 use Rattle.chain_build.specs.declared.groups.Added.{Added}
 use Rattle.chain_build.specs.Added.{HasFacts, IsGroupAdded, IsGrown, AreNameless}
-use Rattle.chain_build.specs.GroupCosts.{IsCostOf, AreCostsOf, AreUngrouped, HasNoTables, AreApart, HasCosts}
+use Rattle.chain_build.specs.GroupCosts.{IsCostOf, AreCostsOf, AreUngrouped, AreApart, HasCosts}
 use Rattle.chain_build.proofs.Counting.{AreApart-before, HasSame, HasSame-grows, no_adders, no_windows, no_tables}
 
 -- the tables of the built groups

@@ -3,7 +3,6 @@ use Rattle.std.proofs.Common.{◌≡◌, ℕ, Bool, true, false, cond, List, [],
 use Rattle.std.specs.Prelude.{find, nat_eq}
 use Rattle.std.specs.Option.{option_map, unwrap_or}
 use Rattle.verilog_tree.specs.declared.tree.Kind.{Kind}
-use Rattle.verilog_tree.specs.declared.tree.Kind.TheVariants.{Reg}
 use Rattle.verilog_tree.specs.declared.tree.Signal.{Signal}
 use Rattle.verilog_tree.specs.Counted.{in_group, depth_of, HasDepth, IsGivenWithin}
 use Rattle.verilog_tree.specs.Names.{is_in_group, kind_of}

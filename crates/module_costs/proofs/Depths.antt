@@ -23,20 +23,19 @@ use Rattle.verilog_tree.specs.Tree.{Name as NameTree, Action, Assignment, Design
 use Rattle.verilog_tree.specs.Names as texts
 use Rattle.verilog_tree.specs.Names.{text_of, kind_of}
 use Rattle.verilog_tree.specs.Counted.{in_group, depth_of, HasDepth, IsGivenWithin}
-use Rattle.net_module.specs.Written.{is_register, is_wire, number_after, number_in, number_of, own_number, tree_for, block_for, node_blocks, input_place, output_place, valid_place, written_module}
+use Rattle.net_module.specs.Written.{is_register, is_wire, number_after, number_in, number_of, own_number, tree_for, input_place, output_place, valid_place, written_module}
 use Rattle.net_module.proofs.Cycles.{wire_parts, register_data, wire_of}
-use Rattle.net_module.proofs.Lists.{assignment_of, IsOfWire, assign_from}
+use Rattle.net_module.proofs.Lists.{assignment_of, assign_from}
 use Rattle.net_module.proofs.NodeTexts.{node_text_of}
 use Rattle.net_module.proofs.Numbers.{one_cell, number_least, number_below, number_input}
 use Rattle.net_module.proofs.Loops.{number_past}
 use Rattle.std.proofs.lemmas.Option.{slice_get_within}
 use Rattle.net_text.specs.Small.{AreSmall}
-use Rattle.net_text.proofs.Names.{nameless_shape, kind_shape, shape_for, text_shape, small_shape}
-use Rattle.net_text.proofs.Spelled.{shape_text}
+use Rattle.net_text.proofs.Names.{kind_shape, shape_for, text_shape, small_shape}
 use Rattle.module_costs.specs.Counting.{HasOwnTables}
 use Rattle.module_costs.proofs.Prefixes.{is_shape_in, shape_in_group}
 use Rattle.module_costs.proofs.Sums.{nameless_in}
-use Rattle.module_costs.proofs.Written.{past_ports, register_from, IsRegisterOf, block_from, IsBlockOf}
+use Rattle.module_costs.proofs.Written.{past_ports, register_from, block_from}
 
 true_false : true ≡ false → ⊥
 true_false h = cc

@@ -1,5 +1,5 @@
 -- Which nodes the registers and always blocks of a written module are of.
-use Rattle.std.proofs.Common.{◌≡◌, ℕ, zero, suc, ◌+◌, Bool, true, false, not, cond, List, [], ◌∷◌, ◌++◌, Option, None, Some, slice_get, refl, sym, ◌∙◌, ap, arith}
+use Rattle.std.proofs.Common.{◌≡◌, ℕ, zero, suc, ◌+◌, Bool, true, false, not, cond, List, [], ◌∷◌, ◌++◌, Option, Some, slice_get, refl, sym, ◌∙◌, ap, arith}
 use Rattle.std.specs.Prelude.{nat_eq, find}
 use Rattle.std.specs.Option.{option_map}
 use Rattle.std.proofs.lemmas.Bool.{eqb-true}
@@ -7,7 +7,7 @@ use Rattle.std.proofs.lemmas.Option.{slice_get_within}
 use Rattle.net_graph.specs.declared.cell.Cell.{Cell}
 use Rattle.net_graph.specs.Name.{is_input}
 use Rattle.verilog_tree.specs.declared.tree.Kind.{Kind}
-use Rattle.verilog_tree.specs.declared.tree.Kind.TheVariants.{Input as InputPort, Output as OutputPort, Wire, Reg}
+use Rattle.verilog_tree.specs.declared.tree.Kind.TheVariants.{Input as InputPort, Output as OutputPort, Reg}
 use Rattle.verilog_tree.specs.declared.tree.Signal.{Signal}
 use Rattle.verilog_tree.specs.Tree.{Action}
 use Rattle.net_module.specs.Written.{is_register, unless, own_number, number_after, number_in, node_signal, node_signals, port, ports, rst_name, ce_name, in_data_name, out_valid_name, out_data_name, tree_for, block_for, node_blocks, kind_for}
