@@ -25,7 +25,7 @@ use Rattle.net_graph.proofs.NetLemmas.{cell_of_added}
 use Rattle.pipeline_balance.specs.Gate.{IsTickOf, IsBitOf, Carries}
 use Rattle.plan_laws.specs.Laws.{IsBetween}
 use Rattle.rounding_stage.proofs.MapLemmas.{fits_between}
-use Rattle.stage_law.specs.declared.stage.Cost.{Cost}
+use Rattle.chain_build.specs.declared.groups.GroupCost.{GroupCost}
 use Rattle.chain_build.specs.declared.output.Outputs.{Outputs}
 use Rattle.chain_build.specs.Added.{IsGrown, AreNameless, CarriesChain, IsChained}
 use Rattle.chain_build.specs.Built.{are_built, AreBuiltGroups}
@@ -180,5 +180,5 @@ module _ {n1 n2 n3 : NetView} {node : Node} {stream : Stream} {outputs : Outputs
   }
 
   -- the outputs cost nothing
-  pub chain_costs : {costs : List Cost} → IsWellFormed n3.cells → (AreApart n2.cells → HasCosts (groups elements) costs n2.cells) → HasCosts (groups elements) costs n3.cells
+  pub chain_costs : {costs : List GroupCost} → IsWellFormed n3.cells → (AreApart n2.cells → HasCosts (groups elements) costs n2.cells) → HasCosts (groups elements) costs n3.cells
   chain_costs formed of_groups = HasCosts-outputs outs.grown outs.adders outs.named (of_groups (AreApart-before outs.grown.extends (record { apart = formed.apart })))
