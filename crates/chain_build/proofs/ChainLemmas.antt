@@ -181,4 +181,4 @@ module _ {n1 n2 n3 : NetView} {node : Node} {stream : Stream} {outputs : Outputs
 
   -- the outputs cost nothing
   pub chain_costs : {costs : List GroupCost} → IsWellFormed n3.cells → (AreApart n2.cells → HasCosts (groups elements) costs n2.cells) → HasCosts (groups elements) costs n3.cells
-  chain_costs formed of_groups = HasCosts-outputs outs.adders outs.named (of_groups (AreApart-before outs.grown.extends (record { apart = formed.apart })))
+  chain_costs formed of_groups = HasCosts-outputs outs.grown outs.adders outs.named (of_groups (AreApart-before outs.grown.extends (record { apart = formed.apart })))

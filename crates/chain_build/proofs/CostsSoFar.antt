@@ -10,14 +10,16 @@ use Rattle.net_graph.specs.Cells.{NetView, cell_at}
 use Rattle.net_graph.specs.Count.{adders_in, windows_in, tables_in}
 use Rattle.net_graph.specs.Grow.{Grows}
 use Rattle.net_graph.specs.WellFormed.{IsBound, IsFree}
+use Rattle.net_graph.specs.Depth.{IsShallow, IsUntouched}
 use Rattle.net_graph.proofs.CellLemmas.{cell_at-there, same_cell}
+use Rattle.net_graph.proofs.DepthLemmas.{IsShallow-same}
 use Rattle.pipeline_balance.specs.Costs.{SameAdders, SameNamed}
 use Rattle.stage_law.specs.Facts.{StageFacts}
 use Rattle.stage_law.specs.Realises.{Realises}
 use Rattle.stage_law.specs.Streams.{Streams}
 use Rattle.chain_build.specs.declared.groups.Added.{Added}
 use Rattle.chain_build.specs.declared.groups.GroupCost.{GroupCost}
-use Rattle.chain_build.specs.Added.{HasFacts, IsGroupAdded, AreNameless}
+use Rattle.chain_build.specs.Added.{HasFacts, IsGroupAdded, IsGrown, AreNameless}
 use Rattle.chain_build.specs.GroupCosts.{IsCostOf, AreCostsOf, AreUngrouped, AreApart, HasCosts}
 use Rattle.chain_build.proofs.Counting.{AreApart-before, HasSame, HasSame-grows, no_adders, no_windows, no_tables}
 
@@ -44,6 +46,7 @@ same_cost g number old new cost some same is = record {
   adders_in = same.adders some ∙ is.adders_in;
   windows_in = same.windows ∙ is.windows_in;
   tables_in = same.tables ∙ is.tables_in;
+  shallow = same.shallow some is.shallow;
 }
 
 pub same_costs : (number : ℕ) (gs : List Group) (costs : List GroupCost) (old new : List Cell) → 1 ≤ number → ((k : ℕ) → number ≤ k → k < number + length gs → HasSame k old new) → AreCostsOf number gs costs old → AreCostsOf number gs costs new
@@ -169,6 +172,12 @@ module _ {gs : List Group} {net : List Cell} {rest : List Group} {costs : List G
           subst (λ (k : ℕ). tables_in k new.cells ≡ tables_in k mid.cells + adds.facts.tables) same_group r.tables
           ∙ ap (λ (n : ℕ). n + adds.facts.tables) (ap (tables_in number) same_cells ∙ no_tables net number free_own) ∙ after_none adds.facts.tables
 
+      -- no node before is of the group
+      new_group : IsUntouched mid.cells mid.group
+      new_group = record {
+        none = λ place cell at own. let low = so.below place cell (subst (λ (cells : List Cell). slice_get cells place ≡ Some cell) same_cells at) in let s = same_group in omega (arith, own, s, low);
+      }
+
       own_cost : IsCostOf g number new.cells added.cost
       own_cost = record {
         kind = adds.kind;
@@ -180,6 +189,7 @@ module _ {gs : List Group} {net : List Cell} {rest : List Group} {costs : List G
         adders_in = adders_new;
         windows_in = windows_new;
         tables_in = tables_own;
+        shallow = subst (λ (k : ℕ). IsShallow new.cells k) same_group (r.shallow bound_mid new_group);
       }
 
       known_new : AreApart new.cells → AreCostsOf 1 (so.front ++ g ∷ []) (costs ++ added.cost ∷ []) new.cells
@@ -207,10 +217,15 @@ CostsSoFar-end {gs} {rest} {net} {costs} so none apart = record {
   no_tables = record { none = so.tables apart };
 }
 
--- ---- the outputs change no cost
+-- ---- the outputs change no cost, and bring no adder
 
-pub HasCosts-outputs : {gs : List Group} {costs : List GroupCost} {old new : List Cell} → SameAdders old new → SameNamed old new → HasCosts gs costs old → HasCosts gs costs new
-HasCosts-outputs {gs} {costs} {old} {new} adders named has = record {
-  costs_are = same_costs 1 gs costs old new (omega arith) (λ k low high. record { adders = adders.each k; windows = named.windows k; tables = named.tables k }) has.costs_are;
+pub HasCosts-outputs : {gs : List Group} {costs : List GroupCost} {old new : List Cell} → IsGrown old new → SameAdders old new → SameNamed old new → HasCosts gs costs old → HasCosts gs costs new
+HasCosts-outputs {gs} {costs} {old} {new} grown adders named has = record {
+  costs_are = same_costs 1 gs costs old new (omega arith) (λ k low high. record {
+    adders = adders.each k;
+    windows = named.windows k;
+    tables = named.tables k;
+    shallow = λ some s. IsShallow-same old new k grown.extends (grown.bound s.bound) (adders.each k some) s;
+  }) has.costs_are;
   no_tables = record { none = λ group. named.tables group ∙ has.no_tables.none group };
 }

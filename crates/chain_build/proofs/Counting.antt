@@ -11,7 +11,9 @@ use Rattle.net_graph.specs.Cells.{NetView}
 use Rattle.net_graph.specs.Count.{total, is_adder, is_window, is_table, has_kind, one_if, adder, adders_in, windows_in, tables_in}
 use Rattle.net_graph.specs.Grow.{Extends, Grows}
 use Rattle.net_graph.specs.WellFormed.{IsBound, IsFree}
+use Rattle.net_graph.specs.Depth.{IsShallow}
 use Rattle.net_graph.proofs.CellLemmas.{same_cell}
+use Rattle.net_graph.proofs.DepthLemmas.{IsShallow-same}
 use Rattle.pipeline_balance.specs.Numbered.{LeavesFree}
 use Rattle.stage_law.specs.Realises.{IsOwnName}
 use Rattle.chain_build.specs.GroupCosts.{AreApart}
@@ -54,11 +56,12 @@ both_of false b e = absurd (cc)
 
 -- ---- a net that grows by one group
 
--- a group has the same adders, windows and tables
+-- a group has the same adders, windows and tables, and stays shallow
 pub record HasSame (group : ℕ) (old new : List Cell) : Type 0 where
   pub adders : 1 ≤ group → adders_in group new ≡ adders_in group old
   pub windows : windows_in group new ≡ windows_in group old
   pub tables : tables_in group new ≡ tables_in group old
+  pub shallow : 1 ≤ group → IsShallow old group → IsShallow new group
 
 module _ {old new : NetView} (grows : Grows old new) (names : LeavesFree old.cells new.cells (IsOwnName old.group)) (bound : IsBound old.cells) (apart : AreApart new.cells) (group : ℕ) (other : group ≡ old.group → ⊥) where
   longer : length old.cells ≤ length new.cells
@@ -126,11 +129,15 @@ module _ {old new : NetView} (grows : Grows old new) (names : LeavesFree old.cel
 
   pub HasSame-grows : HasSame group old.cells new.cells
   HasSame-grows = record {
-    adders = λ some. total_kept (adder group) old.cells new.cells longer kept_adder (new_adder some);
+    adders = same_adders;
     windows = same_names is_window Window only_window (λ e. absurd (cc));
     tables = same_names is_table Table only_table (λ e. absurd (cc));
+    shallow = λ some s. IsShallow-same old.cells new.cells group grows.extends (grows.bound s.bound) (same_adders some) s;
   }
     where
+      same_adders : 1 ≤ group → adders_in group new.cells ≡ adders_in group old.cells
+      same_adders some = total_kept (adder group) old.cells new.cells longer kept_adder (new_adder some)
+
       only_window : (k : NameKind) → is_window k ≡ true → k ≡ Window
       only_window Window e = refl
       only_window Control e = absurd (cc)

@@ -15,17 +15,20 @@ use Rattle.net_graph.specs.Count.{total, table, tables_in, is_table, has_kind, o
 use Rattle.net_graph.specs.WellFormed.{IsNetlist}
 use Rattle.net_module.specs.Written.{written_module}
 use Rattle.net_text.specs.Small.{AreSmall}
-use Rattle.module_costs.specs.Counting.{HasPlainTables, CountsAs}
+use Rattle.module_costs.specs.Counting.{HasPlainTables, HasOwnTables, CountsAs}
+use Rattle.module_costs.proofs.Depths.{has_depth}
 use Rattle.module_costs.proofs.Sums.{counts_as}
+use Rattle.net_graph.specs.Depth.{IsShallow}
 use Rattle.chain_build.specs.declared.groups.GroupCost.{GroupCost}
 use Rattle.verilog_tree.specs.declared.tree.Signal.{Signal}
 use Rattle.verilog_tree.specs.Tree.{Design}
 use Rattle.verilog_tree.specs.Names.{text_of, is_window, is_table as is_table_name}
-use Rattle.verilog_tree.specs.Counted.{Counts, counted, is_reg, is_wire, adders_of, in_group}
+use Rattle.verilog_tree.specs.Counted.{Counts, counted, is_reg, is_wire, adders_of, in_group, HasDepth}
 use Rattle.verilog_text.specs.Order.{IsSameButPlaces, unplaced}
 use Rattle.chain_build.specs.GroupCosts.{AreCostsOf, HasCosts}
 use Rattle.filter_text.specs.Headline.{AreCounted}
 use Rattle.filter_text.specs.Written.{TellCosts}
+use Rattle.filter_text.proofs.DepthText.{same_depth}
 
 -- ---- no table
 
@@ -35,16 +38,19 @@ total_at count (x ∷ cells) zero cell at = let is : x ≡ cell = cc in let e = 
 total_at count (x ∷ cells) (suc place) cell at = omega (arith, total_at count cells place cell at)
 
 -- where no group has a table, no node is named as one
+never_table : (cells : List Cell) → ((group : ℕ) → tables_in group cells ≡ 0) → (place : ℕ) (cell : Cell) (name : Name) → slice_get cells place ≡ Some cell → cell.name ≡ Some name → is_table name.kind ≡ true → ⊥
+never_table cells none place cell name at named is =
+    let one : table name.group cell ≡ 1 = ap (λ (o : Option Name). one_if (has_kind is_table name.group o)) named ∙ (rw (eq-eqb name.group name.group refl, is) refl) in
+    omega (arith, one, none name.group, total_at (table name.group) cells place cell at)
+
 plain_tables : (cells : List Cell) → ((group : ℕ) → tables_in group cells ≡ 0) → HasPlainTables cells
 plain_tables cells none = record {
-  no_adder = λ place cell name at named is. absurd (never place cell name at named is);
-  no_input = λ place cell name at named is. absurd (never place cell name at named is);
+  no_adder = λ place cell name at named is. absurd (never_table cells none place cell name at named is);
+  no_input = λ place cell name at named is. absurd (never_table cells none place cell name at named is);
 }
-  where
-    never : (place : ℕ) (cell : Cell) (name : Name) → slice_get cells place ≡ Some cell → cell.name ≡ Some name → is_table name.kind ≡ true → ⊥
-    never place cell name at named is =
-        let one : table name.group cell ≡ 1 = ap (λ (o : Option Name). one_if (has_kind is_table name.group o)) named ∙ (rw (eq-eqb name.group name.group refl, is) refl) in
-        omega (arith, one, none name.group, total_at (table name.group) cells place cell at)
+
+own_tables : (cells : List Cell) → ((group : ℕ) → tables_in group cells ≡ 0) → HasOwnTables cells
+own_tables cells none = record { own = λ place cell name at named is. absurd (never_table cells none place cell name at named is) }
 
 -- ---- places change no count
 
@@ -104,7 +110,7 @@ few_groups (Round shift mode ∷ es) = omega (arith, few_groups es)
 
 -- ---- the groups of a plan
 
-module _ (cells : List Cell) (counts : CountsAs cells) (d : Design) (same : IsSameButPlaces d (written_module cells)) where
+module _ (cells : List Cell) (counts : CountsAs cells) (deep : (number : ℕ) → 1 ≤ number → number < 2 ^ 64 → IsShallow cells number → HasDepth (written_module cells) number 1) (d : Design) (same : IsSameButPlaces d (written_module cells)) where
   are_counted : (number : ℕ) (gs : List Group) (costs : List GroupCost) → 1 ≤ number → number + length gs < 2 ^ 64 → AreCostsOf number gs costs cells → AreCounted number gs d
   are_counted number [] costs some low are = tt
   are_counted number (g ∷ gs) [] some low are = absurd are
@@ -114,6 +120,7 @@ module _ (cells : List Cell) (counts : CountsAs cells) (d : Design) (same : IsSa
       has_facts = are.0.has_facts;
       counts = same_counts d (written_module cells) same number ∙ counts.each number some (omega (arith, low))
           ∙ (λ i. record { adders = are.0.adders_in i; windows = are.0.windows_in i; tables = are.0.tables_in i });
+      depth = same_depth d (written_module cells) same number 1 (deep number some (omega (arith, low)) are.0.shallow);
     },
     are_counted (number + 1) gs costs (omega arith) (omega (arith, low)) are.1,
   )
@@ -136,7 +143,7 @@ module _ (cells : List Cell) (counts : CountsAs cells) where
 
 pub chain_counted : (es : List Element) (costs : List GroupCost) (cells : List Cell) → length es ≤ 32 → IsNetlist cells → AreSmall cells → HasCosts (groups es) costs cells → (d : Design) → IsSameButPlaces d (written_module cells) → AreCounted 1 (groups es) d
 chain_counted es costs cells few netlist small has d same =
-    are_counted cells (counts_as cells netlist small (plain_tables cells has.no_tables.none)) d same 1 (groups es) costs (omega arith) (let g = few_groups es in omega (arith, g, few)) has.costs_are
+    are_counted cells (counts_as cells netlist small (plain_tables cells has.no_tables.none)) (has_depth cells netlist small (own_tables cells has.no_tables.none)) d same 1 (groups es) costs (omega arith) (let g = few_groups es in omega (arith, g, few)) has.costs_are
 
 -- what is told of the groups is what the module that is written costs
 pub chain_costs : (es : List Element) (costs : List GroupCost) (cells : List Cell) → length es ≤ 32 → IsNetlist cells → AreSmall cells → HasCosts (groups es) costs cells → TellCosts 1 (groups es) costs (written_module cells)

@@ -7,4 +7,5 @@ pub mod ChainShows
 pub mod OutputNumber
 pub mod UncutPlaces
 pub mod UncutOutput
+pub mod DepthText
 pub mod CountedText

@@ -6,7 +6,7 @@ use Rattle.mr_values.specs.Sequence.{phase}
 use Rattle.mr_values.specs.Value.{val}
 use Rattle.mr_values.specs.declared.plan.Element.{Element}
 use Rattle.verilog_tree.specs.Checks.{Passes}
-use Rattle.verilog_tree.specs.Counted.{counted}
+use Rattle.verilog_tree.specs.Counted.{counted, HasDepth}
 use Rattle.verilog_tree.specs.Meaning.{Values}
 use Rattle.module_laws.specs.Running.{HasRuns}
 use Rattle.uncut_runs.specs.Exists.{HasOneUncutRun}
@@ -72,11 +72,13 @@ pub record KeepsOutput (elements : List Element) (width ticks latency period : �
       → (n j : ℕ) (now : Numbers) → slice_get uncut (suc j) ≡ Some now → ticks_in (take j after) ≡ latency + n * period
       → now (output_register d) ≡ val elements (samples_in width ticks after) (pos n)
 
--- counted in the module's statements, the group of this number costs what the plan's group costs as a stage
+-- counted in the module's statements, the group of this number costs what the plan's group costs as a stage, and at most one of its
+-- adders stands between two registers
 pub record IsCounted (g : Group) (number : ℕ) (d : Design) : Type 0 where
   pub facts : StageFacts
   pub has_facts : HasFacts g facts
   pub counts : counted d number ≡ record { adders = facts.adders; windows = facts.windows; tables = facts.tables }
+  pub depth : HasDepth d number 1
 
 -- so do the groups, numbered from here
 abbrev pub AreCounted : ℕ → List Group → Design → Type 0
@@ -84,8 +86,8 @@ AreCounted number [] d = Unit {0}
 AreCounted number (g ∷ gs) d = IsCounted g number d × AreCounted (number + 1) gs d
 
 -- the module passes every check, from any content it runs over any cycles, cut and uncut, its output has the least width for the span of
--- the last stream, it shows the chain, and its groups cost what they cost as stages; where no group rounds, its output register is never
--- cut
+-- the last stream, it shows the chain, and its groups cost what they cost as stages, with at most one adder between two registers; where
+-- no group rounds, its output register is never cut
 pub record IsModuleOf (elements : List Element) (width ticks latency period : ℕ) (design : Design) : Type 0 where
   pub passes : Passes design
   pub runs : HasRuns design

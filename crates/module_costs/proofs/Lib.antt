@@ -1,2 +1,4 @@
 pub mod Prefixes
 pub mod Sums
+pub mod Written
+pub mod Depths

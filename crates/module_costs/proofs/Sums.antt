@@ -37,7 +37,7 @@ sum_one f x = sum_by-cons f x [] ∙ (omega arith)
 -- ---- the names of a node
 
 -- a node without a name is of its own group
-nameless_in : (group own place : ℕ) → 1 ≤ group → is_shape_in group (nameless_shape own place) ≡ nat_eq own group
+pub nameless_in : (group own place : ℕ) → 1 ≤ group → is_shape_in group (nameless_shape own place) ≡ nat_eq own group
 nameless_in group own place some = by (nat_eq own 0) refl
   where
     by : (b : Bool) → nat_eq own 0 ≡ b → is_shape_in group (cond b (CtlNode place) (InGroup own 110 place)) ≡ nat_eq own group

@@ -12,6 +12,10 @@ pub record HasPlainTables (cells : List Cell) : Type 0 where
   pub no_adder : (place : ℕ) (cell : Cell) (name : Name) → slice_get cells place ≡ Some cell → cell.name ≡ Some name → is_table name.kind ≡ true → is_adder cell.item ≡ false
   pub no_input : (place : ℕ) (cell : Cell) (name : Name) → slice_get cells place ≡ Some cell → cell.name ≡ Some name → is_table name.kind ≡ true → is_input cell.item ≡ false
 
+-- each node with the name of a table is of the group of that name
+pub record HasOwnTables (cells : List Cell) : Type 0 where
+  pub own : (place : ℕ) (cell : Cell) (name : Name) → slice_get cells place ≡ Some cell → cell.name ≡ Some name → is_table name.kind ≡ true → name.group ≡ cell.group
+
 abbrev pub net_counts : List Cell → ℕ → Counts
 net_counts cells group = record { adders = adders_in group cells; windows = windows_in group cells; tables = tables_in group cells }
 

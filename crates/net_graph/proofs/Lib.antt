@@ -11,3 +11,4 @@ pub mod GrowLemmas
 pub mod BoundLemmas
 pub mod CountLemmas
 pub mod NumberLemmas
+pub mod DepthLemmas

@@ -8,3 +8,4 @@ pub mod Control
 pub mod Count
 pub mod Names
 pub mod Numbers
+pub mod Depth

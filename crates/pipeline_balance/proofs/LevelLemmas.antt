@@ -12,6 +12,11 @@ use Rattle.pipeline_balance.specs.Numbered.{IsRegister, IsCounted, IsTouched, Le
 use Rattle.pipeline_balance.specs.Leaves.{segment}
 use Rattle.pipeline_balance.specs.Tree.{IsSum, AddsSum, IsLevel, pair_adders}
 use Rattle.pipeline_balance.specs.Costs.{SameNamed}
+use Rattle.pipeline_balance.specs.Shallow.{HasPlainLeaves, SumsLeaves}
+use Rattle.net_graph.specs.Depth.{IsPlain, IsShallow}
+use Rattle.net_graph.specs.WellFormed.{IsBound}
+use Rattle.net_graph.proofs.DepthLemmas.{IsPlain-later}
+use Rattle.pipeline_balance.proofs.ShallowLemmas.{HasPlainLeaves-later, HasPlainLeaves-segment}
 use Rattle.pipeline_balance.proofs.CostLemmas.{SameNamed-refl, SameNamed-trans}
 use Rattle.pipeline_balance.proofs.NumberedLemmas.{IsRegister-later, LeavesFree-refl, LeavesFree-trans}
 use Rattle.pipeline_balance.proofs.PairLemmas.{IsSum-later}
@@ -56,6 +61,8 @@ pub record LevelSoFar (old net : NetView) (leaves : List Leaf) (widths : List �
   pub grows : Grows old net
   pub counts : adders_in old.group net.cells ≡ adders_in old.group old.cells + adders_below (length leaves) (length terms)
   pub same_named : SameNamed old.cells net.cells
+  pub sums : SumsLeaves old net leaves
+  pub plain : IsBound old.cells → HasPlainLeaves net.cells old.group terms
   pub each : (j : ℕ) (term : Leaf) → slice_get terms j ≡ Some term → IsSum net.cells (segment 1 j leaves) (get_or widths (first + j) 0) term
   pub named : (count : ℕ) → IsCounted old.cells old.group Register count → (j : ℕ) (term : Leaf) → slice_get terms j ≡ Some term → IsRegister net.cells term.node.place old.group (name_of old.group Register (count + j)) (get_or widths (first + j) 0)
   pub counted : (count : ℕ) → IsCounted old.cells old.group Register count → IsCounted net.cells old.group Register (count + length terms)
@@ -67,6 +74,8 @@ LevelSoFar-start net leaves widths first = record {
   grows = Grows-refl net;
   counts = omega arith;
   same_named = SameNamed-refl net.cells;
+  sums = record { shallow = λ s plain. s };
+  plain = λ bound. record { each = λ j term is. absurd (cc) };
   each = λ j term is. absurd (cc);
   named = λ count c j term is. absurd (cc);
   counted = λ count c. let same : count ≡ count + 0 = omega arith in subst (λ (n : ℕ). IsCounted net.cells net.group Register n) same c;
@@ -90,6 +99,20 @@ LevelSoFar-step {old} {net} {new} {leaves} {widths} {first} {terms} {term} p a =
           let whole : adders_in old.group new.cells ≡ adders_in old.group old.cells + adders_below (length leaves) (suc (length terms)) = omega (arith, now, before, sum) in
           subst (λ (n : ℕ). adders_in old.group new.cells ≡ adders_in old.group old.cells + adders_below (length leaves) n) next whole;
       same_named = SameNamed-trans p.same_named a.same_named;
+      sums = record {
+        shallow = λ s plain.
+            let s1 = p.sums.shallow s plain in
+            let plain1 = HasPlainLeaves-later old.cells net.cells old.group leaves s.bound p.grows.extends plain in
+            let pair = HasPlainLeaves-segment net.cells old.group 1 (length terms) leaves plain1 in
+            subst (λ (g : ℕ). IsShallow new.cells g) same
+            (a.sums.shallow (subst (λ (g : ℕ). IsShallow net.cells g) (sym same) s1) (subst (λ (g : ℕ). HasPlainLeaves net.cells g (segment 1 (length terms) leaves)) (sym same) pair));
+      };
+      plain = λ bound. record {
+        each = λ j found is. elim (slice_get_push_cases terms term j found is) [
+          | inl before ↦ IsPlain-later net.cells new.cells old.group (p.grows.bound bound) e found.node.place ((p.plain bound).each j found before)
+          | inr last ↦ rw last.1 (subst (λ (g : ℕ). IsPlain new.cells g term.node.place) same a.plain)
+        ];
+      };
       each = λ j found is. elim (slice_get_push_cases terms term j found is) [
         | inl before ↦ IsSum-later (p.each j found before) e
         | inr last ↦ rw (last.0, last.1) a.sum
@@ -121,6 +144,8 @@ LevelSoFar-level {old} {net} {leaves} {widths} {first} {terms} p many = record {
       let c = p.counts in
       omega arith;
   same_named = p.same_named;
+  sums = p.sums;
+  plain = p.plain;
   each = p.each;
   named = p.named;
   counted = p.counted;

@@ -4,6 +4,7 @@ pub mod NumberedLemmas
 pub mod TakenLemmas
 pub mod CounterLemmas
 pub mod WindowLemmas
+pub mod ShallowLemmas
 pub mod PairLemmas
 pub mod SegmentLemmas
 pub mod LevelLemmas

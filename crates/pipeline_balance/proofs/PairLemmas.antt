@@ -28,6 +28,10 @@ use Rattle.pipeline_balance.specs.Numbered.{AddsNext, IsRegister, IsCounted, IsT
 use Rattle.pipeline_balance.specs.Leaves.{signed_by, leaf_value, all_negative, held_sum, IsLeaf, IsNegatable}
 use Rattle.pipeline_balance.specs.Tree.{AddsNode, TakesNode, IsSum, AddsSum}
 use Rattle.pipeline_balance.specs.Costs.{SameNamed}
+use Rattle.pipeline_balance.specs.Shallow.{PassesPlain, SumsPlain, SumsLeaves}
+use Rattle.net_graph.specs.Depth.{IsPlain, IsShallow}
+use Rattle.net_graph.proofs.DepthLemmas.{IsPlain-later}
+use Rattle.pipeline_balance.proofs.ShallowLemmas.{shallow_same, plain_register}
 use Rattle.pipeline_balance.proofs.CostLemmas.{SameNamed-refl, SameNamed-trans, SameNamed-adds, SameNamed-register, SameNamed-bind}
 use Rattle.pipeline_balance.proofs.NumberedLemmas.{width-later, free_adds, free_register, free_bind, LeavesFree-refl, LeavesFree-trans, IsCounted-leaves, IsCounted-more, least_is}
 
@@ -193,10 +197,13 @@ module _ {old mid new : NetView} {from register : Node} {width : ℕ} (adders : 
   names_after = LeavesFree-trans old.cells mid.cells new.cells (λ name. ⊥) (λ name. name ≡ name_of mid.group Register g.number) (IsTouched old.group Register) (λ name no. absurd no)
       (λ name h. inl (ap (λ (n : Name). n.group) h ∙ before.group, ap (λ (n : Name). n.kind) h)) names g.names
 
-  pub AddsSum-register : (leaves : List Leaf) (negative : Bool) → negative ≡ all_negative leaves
+  shallow_after : IsShallow mid.cells old.group → IsShallow new.cells old.group
+  shallow_after s = shallow_same old.group g.grows (subst (λ (n : ℕ). adders_in n new.cells ≡ adders_in n mid.cells) before.group g.counts) s
+
+  pub AddsSum-register : (leaves : List Leaf) (negative : Bool) → negative ≡ all_negative leaves → SumsLeaves old mid leaves
       → ((cut : Cut) → IsCut cut → (x : ℕ → ℤ) (v : Values) → IsRun cut mid.cells x v → (t : ℕ) → cut false width (held_sum v t leaves) ≡ held_sum v t leaves → cut false width (v t from.place) ≡ held_sum v t leaves)
       → AddsSum old new leaves width adders (record { node = register; place = 0; negative = negative })
-  AddsSum-register leaves negative sign is = record {
+  AddsSum-register leaves negative sign sums is = record {
     grows = Grows-trans before g.grows;
     counts = counts_after;
     same_named = SameNamed-trans same_named g.same_named;
@@ -208,6 +215,8 @@ module _ {old mid new : NetView} {from register : Node} {width : ℕ} (adders : 
       starts = g.starts;
       holds = λ cut law x v r t fits. g.steps cut law x v r t ∙ is cut law x v (g.grows.extends.runs cut law x v r) t fits;
     };
+    sums = record { shallow = λ s plain. shallow_after (sums.shallow s plain) };
+    plain = plain_register old.group g.register;
     named = named_after;
     counted = counted_after;
     names = names_after;
@@ -221,13 +230,27 @@ counts_both a b c m n same p q =
     let q' : adders_in a.group c.cells ≡ adders_in a.group b.cells + n = subst (λ (g : ℕ). adders_in g c.cells ≡ adders_in g b.cells + n) same q in
     q' ∙ ap (λ (k : ℕ). k + n) p ∙ omega arith
 
+-- the operands of the sum of two plain leaves are plain
+sums_two : {old n1 n2 n3 : NetView} {left right : Node} (a b : Leaf) → Grows old n1 → Grows n1 n2 → Grows n2 n3 → PassesPlain old n1 a.node left → PassesPlain n1 n2 b.node right → SumsPlain n2 n3 left right → SumsLeaves old n3 (a ∷ b ∷ [])
+sums_two {old} {n1} {n2} {n3} {left} {right} a b g1 g2 g3 pl pr ps = record {
+  shallow = λ s plain.
+      let s1 = pl.shallow s in
+      let t1 : IsShallow n1.cells n1.group = subst (λ (k : ℕ). IsShallow n1.cells k) (sym g1.group) s1 in
+      let s2 : IsShallow n2.cells n2.group = subst (λ (k : ℕ). IsShallow n2.cells k) (sym g2.group) (pr.shallow t1) in
+      let both = g2.group ∙ g1.group in
+      let a_left : IsPlain n2.cells old.group left.place = IsPlain-later n1.cells n2.cells old.group s1.bound g2.extends left.place (pl.plain s.bound (plain.each 0 a refl)) in
+      let b_mid : IsPlain n1.cells n1.group b.node.place = subst (λ (k : ℕ). IsPlain n1.cells k b.node.place) (sym g1.group) (IsPlain-later old.cells n1.cells old.group s.bound g1.extends b.node.place (plain.each 1 b refl)) in
+      let b_right : IsPlain n2.cells n2.group right.place = subst (λ (k : ℕ). IsPlain n2.cells k right.place) (sym g2.group) (pr.plain s1.bound b_mid) in
+      subst (λ (k : ℕ). IsShallow n3.cells k) both (ps.shallow s2 (subst (λ (k : ℕ). IsPlain n2.cells k left.place) (sym both) a_left) b_right);
+}
+
 pub AddsSum-two : {old n1 n2 n3 new : NetView} {left right sum register : Node} (a b : Leaf) (width : ℕ) (negative : Bool)
     → AddsNode old n1 0 left (λ cut v t. v t a.node.place *ℤ pos (2 ^ a.place)) → AddsNode n1 n2 0 right (λ cut v t. v t b.node.place *ℤ pos (2 ^ b.place))
     → AddsNode n2 n3 1 sum (λ cut v t. cut false width (signed_by (cond a.negative b.negative false) (signed_by a.negative (v t left.place) +ℤ signed_by b.negative (v t right.place))))
-    → TakesNode n3 new sum width register → negative ≡ cond a.negative b.negative false
+    → TakesNode n3 new sum width register → negative ≡ cond a.negative b.negative false → PassesPlain old n1 a.node left → PassesPlain n1 n2 b.node right → SumsPlain n2 n3 left right
     → AddsSum old new (a ∷ b ∷ []) width 1 (record { node = register; place = 0; negative = negative })
-AddsSum-two {old} {n1} {n2} {n3} {new} {left} {right} {sum} {register} a b width negative l r s g e =
-    AddsSum-register 1 (Grows-trans l.grows (Grows-trans r.grows s.grows)) (counts_both old n1 n3 0 1 l.grows.group l.counts (counts_both n1 n2 n3 0 1 r.grows.group r.counts s.counts)) (names_both old n1 n3 l.names (names_both n1 n2 n3 r.names s.names)) (SameNamed-trans l.same_named (SameNamed-trans r.same_named s.same_named)) g (a ∷ b ∷ []) negative (e ∙ sym (and_true a.negative b.negative))
+AddsSum-two {old} {n1} {n2} {n3} {new} {left} {right} {sum} {register} a b width negative l r s g e pl pr ps =
+    AddsSum-register 1 (Grows-trans l.grows (Grows-trans r.grows s.grows)) (counts_both old n1 n3 0 1 l.grows.group l.counts (counts_both n1 n2 n3 0 1 r.grows.group r.counts s.counts)) (names_both old n1 n3 l.names (names_both n1 n2 n3 r.names s.names)) (SameNamed-trans l.same_named (SameNamed-trans r.same_named s.same_named)) g (a ∷ b ∷ []) negative (e ∙ sym (and_true a.negative b.negative)) (sums_two a b l.grows r.grows s.grows pl pr ps)
     (λ cut law x v run t fits.
     let lefts = l.computes.holds cut law x v (r.grows.extends.runs cut law x v (s.grows.extends.runs cut law x v run)) t in
     let rights = r.computes.holds cut law x v (s.grows.extends.runs cut law x v run) t in
@@ -235,10 +258,10 @@ AddsSum-two {old} {n1} {n2} {n3} {new} {left} {right} {sum} {register} a b width
     held-two v t a b ∙ rw (lefts, rights) refl in
     ap (cut false width) (s.computes.holds cut law x v run t ∙ ap (cut false width) (sym is) ∙ fits) ∙ fits)
 
-pub AddsSum-one : {old mid new : NetView} {held register : Node} (a : Leaf) (width : ℕ) → AddsNode old mid 0 held (λ cut v t. v t a.node.place *ℤ pos (2 ^ a.place)) → TakesNode mid new held width register
+pub AddsSum-one : {old mid new : NetView} {held register : Node} (a : Leaf) (width : ℕ) → AddsNode old mid 0 held (λ cut v t. v t a.node.place *ℤ pos (2 ^ a.place)) → TakesNode mid new held width register → PassesPlain old mid a.node held
     → AddsSum old new (a ∷ []) width 0 (record { node = register; place = 0; negative = a.negative })
-AddsSum-one {old} {mid} {new} {held} {register} a width l g =
-    AddsSum-register 0 l.grows l.counts l.names l.same_named g (a ∷ []) a.negative (sym (just_true a.negative))
+AddsSum-one {old} {mid} {new} {held} {register} a width l g p =
+    AddsSum-register 0 l.grows l.counts l.names l.same_named g (a ∷ []) a.negative (sym (just_true a.negative)) (record { shallow = λ s plain. p.shallow s })
     (λ cut law x v run t fits. ap (cut false width) (l.computes.holds cut law x v run t ∙ sym (held-one v t a)) ∙ fits)
 
 -- ---- the root

@@ -11,7 +11,7 @@ use Rattle.net_graph.specs.declared.cell.Leaf.{Leaf}
 use Rattle.net_graph.specs.declared.cell.Item.TheVariants.{Constant}
 use Rattle.net_graph.specs.declared.name.NameKind.TheVariants.{Register}
 use Rattle.net_graph.specs.Cells.{NetView, cell_at}
-use Rattle.net_graph.specs.WellFormed.{IsWidth}
+use Rattle.net_graph.specs.WellFormed.{IsWidth, IsBound}
 use Rattle.net_graph.specs.Cut.{Cut, IsCut}
 use Rattle.net_graph.specs.Run.{Values, IsRun}
 use Rattle.net_graph.specs.Grow.{Extends, Grows, Adds}
@@ -24,6 +24,9 @@ use Rattle.pipeline_balance.specs.Numbered.{IsRegister, IsCounted, IsTouched, Le
 use Rattle.pipeline_balance.specs.Leaves.{delayed, signed_by, leaf_value, signed_sum, all_negative, held_sum, segment, IsLeaf, IsNegatable}
 use Rattle.pipeline_balance.specs.Tree.{AddsNode, IsLevel, level_count, count_to, SumsFit, AreRegisters, tree_adders, IsTree}
 use Rattle.pipeline_balance.specs.Costs.{SameNamed}
+use Rattle.pipeline_balance.specs.Shallow.{HasPlainLeaves, KeepsShallow, SumsLeaves}
+use Rattle.net_graph.specs.Depth.{IsPlain, IsShallow}
+use Rattle.pipeline_balance.proofs.ShallowLemmas.{shallow_same}
 use Rattle.pipeline_balance.proofs.CostLemmas.{SameNamed-refl, SameNamed-trans, SameNamed-adds}
 use Rattle.pipeline_balance.proofs.NumberedLemmas.{width-later, IsRegister-later, IsCounted-leaves, LeavesFree-refl, LeavesFree-trans, free_adds}
 use Rattle.pipeline_balance.proofs.PairLemmas.{IsNegatable-later}
@@ -81,6 +84,8 @@ pub record IsPart (old net : NetView) (leaves : List Leaf) (widths : List ℕ) (
   pub wide : (before : ℕ) → level ≡ suc before → (k : ℕ) (term : Leaf) → slice_get terms k ≡ Some term → (term.place ≡ 0) × ((cell_at net.cells term.node.place).width ≡ get_or widths (count_to (length leaves) before + k) 0)
   pub adders : adders_in old.group net.cells + length terms ≡ adders_in old.group old.cells + length leaves
   pub same_named : SameNamed old.cells net.cells
+  pub sums : SumsLeaves old net leaves
+  pub plain : IsBound old.cells → HasPlainLeaves old.cells old.group leaves → HasPlainLeaves net.cells old.group terms
   pub named : (count : ℕ) → IsCounted old.cells old.group Register count → (k : ℕ) (node : Node) → slice_get registers k ≡ Some node → IsRegister net.cells node.place old.group (name_of old.group Register (count + k)) (get_or widths k 0)
   pub counted : (count : ℕ) → IsCounted old.cells old.group Register count → IsCounted net.cells old.group Register (count + length registers)
   pub names : LeavesFree old.cells net.cells (IsTouched old.group Register)
@@ -230,6 +235,13 @@ module _ (old mid new : NetView) (leaves terms sums : List Leaf) (widths : List 
         let now : adders_in old.group new.cells + length sums ≡ adders_in old.group mid.cells + length terms = subst (λ (g : ℕ). adders_in g new.cells + length sums ≡ adders_in g mid.cells + length terms) p.grows.group l.counts in
         now ∙ p.adders;
     same_named = SameNamed-trans p.same_named l.same_named;
+    sums = record {
+      shallow = λ s plain.
+          let s1 = p.sums.shallow s plain in
+          subst (λ (g : ℕ). IsShallow new.cells g) p.grows.group
+          (l.sums.shallow (subst (λ (g : ℕ). IsShallow mid.cells g) (sym p.grows.group) s1) (subst (λ (g : ℕ). HasPlainLeaves mid.cells g terms) (sym p.grows.group) (p.plain s.bound plain)));
+    };
+    plain = λ bound plain. subst (λ (g : ℕ). HasPlainLeaves new.cells g sums) p.grows.group (l.plain (p.grows.bound bound));
     named = more_named;
     counted = more_counted;
     names = LeavesFree-trans old.cells mid.cells new.cells (IsTouched old.group Register) (IsTouched mid.group Register) (IsTouched old.group Register) (λ name h. h) (λ name h. subst (λ (g : ℕ). IsTouched g Register name) p.grows.group h) p.names l.names;
@@ -247,6 +259,8 @@ IsPart-start net leaves widths h = record {
   wide = λ before e. absurd (omega arith);
   adders = refl;
   same_named = SameNamed-refl net.cells;
+  sums = record { shallow = λ s plain. s };
+  plain = λ bound plain. plain;
   named = λ count c k node is. absurd (cc);
   counted = λ count c. let same : count ≡ count + 0 = omega arith in subst (λ (n : ℕ). IsCounted net.cells net.group Register n) same c;
   names = LeavesFree-refl net.cells (IsTouched net.group Register);
@@ -323,8 +337,8 @@ module _ (old net : NetView) (leaves terms : List Leaf) (widths : List ℕ) (lev
       by_sign false = omega arith
 
   -- the tree with its root
-  pub IsTree-root : (new : NetView) (term : Leaf) (root : Node) → slice_get terms 0 ≡ Some term → AddsNode net new (one_if term.negative) root (λ cut v t. leaf_value v t term) → IsTree old new leaves widths levels registers root
-  IsTree-root new term root is n = record {
+  pub IsTree-root : (new : NetView) (term : Leaf) (root : Node) → slice_get terms 0 ≡ Some term → AddsNode net new (one_if term.negative) root (λ cut v t. leaf_value v t term) → KeepsShallow net new term.node → IsTree old new leaves widths levels registers root
+  IsTree-root new term root is n kept = record {
     grows = Grows-trans p.grows n.grows;
     within = n.computes.within;
     held = AreRegisters-later p.held n.grows.extends;
@@ -337,6 +351,12 @@ module _ (old net : NetView) (leaves terms : List Leaf) (widths : List ℕ) (lev
         let one = one_term in
         let whole = all_adders leaves some in
         omega arith;
+    shallow = record {
+      shallow = λ s plain.
+          let s1 = p.sums.shallow s plain in
+          let last : IsPlain net.cells net.group term.node.place = subst (λ (g : ℕ). IsPlain net.cells g term.node.place) (sym p.grows.group) ((p.plain s.bound plain).each 0 term is) in
+          subst (λ (g : ℕ). IsShallow new.cells g) p.grows.group (kept.shallow (subst (λ (g : ℕ). IsShallow net.cells g) (sym p.grows.group) s1) last);
+    };
     same_named = SameNamed-trans p.same_named n.same_named;
     named = λ count c k node found. IsRegister-later n.grows.extends (p.named count c k node found);
     counted = λ count c. IsCounted-leaves old.group Register (count + length registers) n.grows.extends n.names (λ k no. no) (p.counted count c);
@@ -356,6 +376,7 @@ IsTree-none old new leaves widths levels root data_group empty a = rw empty (rec
   sums = λ cut law x v r fits t.
       r.each root.place _ (cell_of_added a) t ∙ ap (λ (c : Bool). cut c 1 (wrap 1 (pos 0))) (nameless_data old.group true data_group) ∙ ap (cut false 1) (wrap_zero 1 (omega arith)) ∙ law.fitting false 1 (pos 0) (omega arith) (FitsWidth-zero 1) ∙ sym (delayed_nothing levels t);
   adders = adders_plain old.group a refl ∙ omega arith;
+  shallow = record { shallow = λ s plain. shallow_same old.group (Grows-data data_group a refl) (adders_plain old.group a refl) s };
   same_named = SameNamed-adds a;
   named = λ count c k node is. absurd (cc);
   counted = λ count c.

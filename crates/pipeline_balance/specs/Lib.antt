@@ -4,4 +4,5 @@ pub mod Costs
 pub mod Gate
 pub mod Leaves
 pub mod Phase
+pub mod Shallow
 pub mod Tree

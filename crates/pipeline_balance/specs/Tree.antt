@@ -7,11 +7,13 @@ use Rattle.net_graph.specs.declared.name.NameKind.TheVariants.{Register}
 use Rattle.net_graph.specs.Cells.{NetView, cell_at}
 use Rattle.net_graph.specs.Cut.{Cut, IsCut}
 use Rattle.net_graph.specs.Run.{Values, IsRun}
-use Rattle.net_graph.specs.WellFormed.{IsLeastFree}
 use Rattle.net_graph.specs.Grow.{Grows}
 use Rattle.net_graph.specs.Count.{one_if, adders_in}
 use Rattle.pipeline_balance.specs.Numbered.{IsRegister, IsCounted, IsTouched, LeavesFree, name_of}
 use Rattle.pipeline_balance.specs.Costs.{SameNamed}
+use Rattle.net_graph.specs.Depth.{IsPlain}
+use Rattle.net_graph.specs.WellFormed.{IsBound, IsLeastFree}
+use Rattle.pipeline_balance.specs.Shallow.{HasPlainLeaves, SumsLeaves}
 use Rattle.pipeline_balance.specs.Leaves.{delayed, signed_sum, all_negative, held_sum, segment}
 
 -- a node has this value at each tick of each run, cut or uncut
@@ -49,12 +51,14 @@ pub record TakesNode (old new : NetView) (from : Node) (width : ℕ) (to : Node)
   pub starts : (cut : Cut) → IsCut cut → (inputs : ℕ → ℤ) (values : Values) → IsRun cut new.cells inputs values → values 0 to.place ≡ pos 0
   pub steps : (cut : Cut) → IsCut cut → (inputs : ℕ → ℤ) (values : Values) → IsRun cut new.cells inputs values → (t : ℕ) → values (suc t) to.place ≡ cut false width (values t from.place)
 
--- what one call adds: the sum of these leaves, with so many adders, in a register with the next free number
+-- what one call adds: the sum of these leaves, with so many adders and none before another, in a register with the next free number
 pub record AddsSum (old new : NetView) (leaves : List Leaf) (width adders : ℕ) (term : Leaf) : Type 0 where
   pub grows : Grows old new
   pub counts : adders_in old.group new.cells ≡ adders_in old.group old.cells + adders
   pub same_named : SameNamed old.cells new.cells
   pub sum : IsSum new.cells leaves width term
+  pub sums : SumsLeaves old new leaves
+  pub plain : IsPlain new.cells old.group term.node.place
   pub named : (count : ℕ) → IsCounted old.cells old.group Register count → IsRegister new.cells term.node.place old.group (name_of old.group Register count) width
   pub counted : (count : ℕ) → IsCounted old.cells old.group Register count → IsCounted new.cells old.group Register (suc count)
   pub names : LeavesFree old.cells new.cells (IsTouched old.group Register)
@@ -64,12 +68,14 @@ abbrev pub pair_adders : ℕ → ℕ → ℕ
 pair_adders count j = one_if (nat_lt (j * 2 + 1) count)
 
 -- The terms are the sums of the leaves in pairs, and the last by itself where their number is odd; the widths are those from `first`
--- on.
+-- on. No adder stands before another.
 pub record IsLevel (old new : NetView) (leaves : List Leaf) (widths : List ℕ) (first : ℕ) (terms : List Leaf) : Type 0 where
   pub grows : Grows old new
   pub many : length terms ≡ (length leaves + 1) / 2
   pub counts : adders_in old.group new.cells + length terms ≡ adders_in old.group old.cells + length leaves
   pub same_named : SameNamed old.cells new.cells
+  pub sums : SumsLeaves old new leaves
+  pub plain : IsBound old.cells → HasPlainLeaves new.cells old.group terms
   pub each : (j : ℕ) (term : Leaf) → slice_get terms j ≡ Some term → IsSum new.cells (segment 1 j leaves) (get_or widths (first + j) 0) term
   pub named : (count : ℕ) → IsCounted old.cells old.group Register count → (j : ℕ) (term : Leaf) → slice_get terms j ≡ Some term → IsRegister new.cells term.node.place old.group (name_of old.group Register (count + j)) (get_or widths (first + j) 0)
   pub counted : (count : ℕ) → IsCounted old.cells old.group Register count → IsCounted new.cells old.group Register (count + length terms)
@@ -103,7 +109,8 @@ abbrev pub tree_adders : List Leaf → ℕ
 tree_adders [] = 0
 tree_adders (leaf ∷ leaves) = if all_negative (leaf ∷ leaves) then suc (length leaves) else length leaves
 
--- The root is the signed sum of all leaves, `levels` ticks before, where the sums of the registers fit.
+-- The root is the signed sum of all leaves, `levels` ticks before, where the sums of the registers fit. No adder stands before another
+-- without a register between them.
 pub record IsTree (old new : NetView) (leaves : List Leaf) (widths : List ℕ) (levels : ℕ) (registers : List Node) (root : Node) : Type 0 where
   pub grows : Grows old new
   pub within : root.place < length new.cells
@@ -111,6 +118,7 @@ pub record IsTree (old new : NetView) (leaves : List Leaf) (widths : List ℕ) (
   pub sums : (cut : Cut) → IsCut cut → (inputs : ℕ → ℤ) (values : Values) → IsRun cut new.cells inputs values → SumsFit cut values leaves widths levels
       → (t : ℕ) → values t root.place ≡ delayed levels t (λ s. signed_sum values s leaves)
   pub adders : adders_in old.group new.cells ≡ adders_in old.group old.cells + tree_adders leaves
+  pub shallow : SumsLeaves old new leaves
   pub same_named : SameNamed old.cells new.cells
   pub named : (count : ℕ) → IsCounted old.cells old.group Register count → (k : ℕ) (node : Node) → slice_get registers k ≡ Some node → IsRegister new.cells node.place old.group (name_of old.group Register (count + k)) (get_or widths k 0)
   pub counted : (count : ℕ) → IsCounted old.cells old.group Register count → IsCounted new.cells old.group Register (count + length registers)

@@ -5,6 +5,7 @@ ghost use Rattle.net_graph.specs.WellFormed.{IsWidth};
 ghost use Rattle.net_graph.specs.Grow.{Extends};
 ghost use Rattle.net_graph.specs.declared.name.NameKind.TheVariants.{Register};
 ghost use Rattle.pipeline_balance.specs.Leaves.{IsLeaf, signed_by};
+ghost use Rattle.pipeline_balance.specs.Shallow.{PassesPlain, SumsPlain};
 ghost use Rattle.pipeline_balance.specs.Tree.{AddsNode, AddsSum, TakesNode};
 
 use crate::numbering::next_register;
@@ -30,6 +31,7 @@ pub(crate) fn shifted(net: &mut Net, leaf: Leaf) -> Result<Node, Memory>
     requires data_group { 1 ≤ net.old.group }
     requires is_leaf { IsLeaf net.old.cells leaf }
     ensures ok { IfOk result (λ to. AddsNode net.old net.new 0 to (λ cut values t. values t leaf.node.place *ℤ pos (2 ^ leaf.place))) }
+    ensures plain { IfOk result (λ to. PassesPlain net.old net.new leaf.node to) }
     ensures err { OnErr result (net.new ≡ net.old) }
 {
     if leaf.place == 0 {
@@ -56,6 +58,7 @@ fn combined(
     ensures ok { IfOk result (λ to. AddsNode net.old net.new 1 to
         (λ cut values t. cut false width (signed_by (if a_negative then b_negative else false)
         (signed_by a_negative (values t a.place) +ℤ signed_by b_negative (values t b.place))))) }
+    ensures shallow { IfOk result (λ _. SumsPlain net.old net.new a b) }
     ensures err { OnErr result (net.new ≡ net.old) }
 {
     if a_negative == b_negative {

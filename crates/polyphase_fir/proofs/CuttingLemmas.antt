@@ -1,5 +1,5 @@
 -- A window over a stream that is cut to the width of its values.
-use Rattle.std.proofs.Common.{◌≡◌, ℕ, ◌+◌, ◌*◌, ◌^◌, ◌<◌, ◌≤◌, List, [], ◌∷◌, length, refl, sym, ◌∙◌, ap, arith, subst, ℤ, pos, ◌+ℤ◌, ◌-ℤ◌, ◌*ℤ◌, Bool, true, false}
+use Rattle.std.proofs.Common.{◌≡◌, ℕ, ◌+◌, ◌*◌, ◌^◌, ◌<◌, ◌≤◌, List, [], ◌∷◌, length, refl, sym, ◌∙◌, ap, arith, subst, ℤ, pos, ◌+ℤ◌, ◌-ℤ◌, ◌*ℤ◌, Bool, true, false, Some, slice_get}
 use Rattle.std.proofs.lemmas.Int.{ints}
 use Rattle.std.proofs.lemmas.Option.{slice_get_within}
 use Rattle.mr_values.specs.Sequence.{Sequence, filter}
@@ -20,6 +20,7 @@ use Rattle.pipeline_balance.specs.Gate.{IsWindow}
 use Rattle.pipeline_balance.specs.Numbered.{IsCounted, IsTouched}
 use Rattle.pipeline_balance.proofs.NumberedLemmas.{free_adds, LeavesFree-refl, LeavesFree-trans, IsCounted-leaves}
 use Rattle.pipeline_balance.proofs.CostLemmas.{SameAdders-refl, SameAdders-trans, SameAdders-plain, SameNamed-refl, SameNamed-adds}
+use Rattle.pipeline_balance.proofs.ShallowLemmas.{plain_register}
 use Rattle.stage_law.specs.Realises.{IsUnused}
 use Rattle.stage_law.specs.Streams.{Streams}
 use Rattle.polyphase_fir.specs.Cutting.{IsNarrowed, AddsWindow}
@@ -74,6 +75,8 @@ pub AddsWindow-cut : {old mid new : NetView} {node : Node} {width : ℕ} {nodes 
 AddsWindow-cut {old} {mid} {new} {node} {width} {nodes} streams from unused least n w =
     let taken : Stream = record { node = node; period = from.period; offset = from.offset } in
     let same = n.grows.group in
+    let counted : IsCounted mid.cells mid.group Window 0 = IsCounted-leaves mid.group Window 0 n.grows.extends n.names (λ number no. no) (subst (λ (g : ℕ). IsCounted old.cells g Window 0) (sym same) (no_names old.cells old.group unused)) in
+    let register_at = λ (age : ℕ) (found : Node) (is : slice_get nodes age ≡ Some found). w.registers 0 counted age found is in
     record {
       grows = Grows-trans n.grows w.grows;
       window = record {
@@ -91,13 +94,13 @@ AddsWindow-cut {old} {mid} {new} {node} {width} {nodes} streams from unused leas
         width = width;
         least = least;
         narrow = λ age found is.
-            let counted : IsCounted mid.cells mid.group Window 0 = IsCounted-leaves mid.group Window 0 n.grows.extends n.names (λ number no. no) (subst (λ (g : ℕ). IsCounted old.cells g Window 0) (sym same) (no_names old.cells old.group unused)) in
-            let register = w.registers 0 counted age found is in
+            let register = register_at age found is in
             let own_width : (cell_at new.cells found.place).width ≡ (cell_at mid.cells node.place).width = ap (λ (c : Cell). c.width) (cell_at-is new.cells found.place register.cell register.there) ∙ register.wide in
             let some = n.some in
             let most = n.most in
             (slice_get_within new.cells found.place register.cell register.there, omega arith, omega arith);
       };
+      plain = record { each = λ age found is. plain_register old.group (register_at age found is) };
       adders = SameAdders-trans n.adders w.adders;
       windows = subst (λ (g : ℕ). windows_in g new.cells ≡ windows_in g mid.cells + length nodes) same w.windows ∙ ap (λ (m : ℕ). m + length nodes) (n.named.windows old.group);
       tables = subst (λ (g : ℕ). tables_in g new.cells ≡ tables_in g mid.cells) same w.tables ∙ n.named.tables old.group;

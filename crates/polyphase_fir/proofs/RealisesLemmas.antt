@@ -16,7 +16,11 @@ use Rattle.net_graph.specs.Count.{adders_in, windows_in}
 use Rattle.net_graph.specs.Cut.{Cut, IsCut, cut_all, cut_control}
 use Rattle.net_graph.proofs.CutLemmas.{IsCut-all, IsCut-control}
 use Rattle.net_graph.proofs.GrowLemmas.{Grows-trans}
+use Rattle.net_graph.specs.Depth.{IsShallow}
+use Rattle.net_graph.proofs.DepthLemmas.{IsShallow-none}
 use Rattle.pipeline_balance.specs.Gate.{HasTaken}
+use Rattle.pipeline_balance.specs.Shallow.{ArePlain}
+use Rattle.pipeline_balance.proofs.ShallowLemmas.{shallow_more}
 use Rattle.pipeline_balance.specs.Numbered.{IsTouched}
 use Rattle.pipeline_balance.proofs.NumberedLemmas.{LeavesFree-trans}
 use Rattle.stage_law.specs.declared.stage.Emitted.{Emitted}
@@ -25,6 +29,7 @@ use Rattle.stage_law.specs.Streams.{Streams}
 use Rattle.polyphase_fir.specs.Facts.{polyphase_facts, elements_of, levels_of, adders_below}
 use Rattle.polyphase_fir.specs.Cutting.{AddsWindow}
 use Rattle.polyphase_fir.specs.Roots.{AddsRoots, IsShown}
+use Rattle.polyphase_fir.specs.Sums.{SumsWindow}
 
 own_window : (group : ℕ) (name : Name) → IsTouched group Window name → IsOwnName group name
 own_window group name (inl h) = inl h.0
@@ -64,8 +69,8 @@ taken_at up down period q first n k r some positive whole index inside =
 
 pub Realises-phases : {old first second new : NetView} {from stream : Stream} {window roots : List Node} {levels : ℕ} (streams : Streams) (taps : List ℤ) (up down : ℕ) → 1 ≤ up → 1 ≤ from.period → 1 ≤ old.group
     → AddsWindow streams old first from window → ceil_div (length taps) up ≡ length window → AddsRoots streams first second from levels taps up roots → length roots ≡ up → IsShown second new roots up down from levels stream
-    → levels ≡ levels_of taps up → (emitted : Emitted) → emitted.stream ≡ stream → Realises (polyphase_facts taps up down) streams old new from emitted
-Realises-phases {old} {first} {second} {new} {from} {stream} {window} {roots} {levels} streams taps up down some positive data_group w long p all shown levels_are emitted is =
+    → SumsWindow first second window → levels ≡ levels_of taps up → (emitted : Emitted) → emitted.stream ≡ stream → Realises (polyphase_facts taps up down) streams old new from emitted
+Realises-phases {old} {first} {second} {new} {from} {stream} {window} {roots} {levels} streams taps up down some positive data_group w long p all shown sums levels_are emitted is =
     let s = shown.shown in
     let same = w.grows.group in
     let same' = p.grows.group ∙ same in
@@ -85,6 +90,10 @@ Realises-phases {old} {first} {second} {new} {from} {stream} {window} {roots} {l
           omega (arith, before, trees, phases, after);
       windows = s.named.windows old.group ∙ p.named.windows old.group ∙ w.windows ∙ ap (λ (n : ℕ). windows_in old.group old.cells + n) (sym long);
       tables = s.named.tables old.group ∙ p.named.tables old.group ∙ w.tables ∙ omega arith;
+      shallow = λ bound none.
+          let s1 = shallow_more old.group data_group w.grows w.adders (IsShallow-none old.cells old.group bound none) in
+          let s2 = sums.shallow (subst (λ (g : ℕ). IsShallow first.cells g) (sym same) s1) (subst (λ (g : ℕ). ArePlain first.cells g window) (sym same) w.plain) in
+          shallow_more old.group data_group s.grows s.adders (subst (λ (g : ℕ). IsShallow second.cells g) same s2);
       names =
           LeavesFree-trans old.cells first.cells new.cells (IsTouched old.group Window) (IsOwnName old.group) (IsOwnName old.group) (own_window old.group) (λ name h. h) w.names
           (LeavesFree-trans first.cells second.cells new.cells (IsTouched first.group Register) (λ name. name.kind ≡ Control) (IsOwnName old.group) (λ name h. own_register old.group name (subst (λ (g : ℕ). IsTouched g Register name) same h)) (λ name h. inr h) p.names s.names);

@@ -1,7 +1,9 @@
 -- The trees of the phases, one after another.
-use Rattle.std.proofs.Common.{◌≡◌, ℕ, suc, ◌+◌, ◌<◌, ◌≤◌, List, [], ◌∷◌, ◌++◌, length, length-append, map, refl, sym, ◌∙◌, ap, arith, subst, inl, inr, ℤ, pos, ◌-ℤ◌, Bool, true, false, cond, Some, slice_get, All}
+use Rattle.std.proofs.Common.{◌≡◌, ℕ, zero, suc, ◌+◌, ◌<◌, ◌≤◌, List, [], ◌∷◌, ◌++◌, length, length-append, map, refl, sym, ◌∙◌, ap, arith, subst, inl, inr, ℤ, pos, ◌-ℤ◌, Bool, true, false, cond, Some, slice_get, All}
 use Rattle.std.proofs.lemmas.Int.{ints}
 use Rattle.std.proofs.lemmas.List.{length-map}
+use Rattle.std.proofs.lemmas.List.Elements.{All-head, All-tail}
+use Rattle.std.proofs.lemmas.Option.{slice_get-get_or}
 use Rattle.mr_values.specs.Sequence.{phase}
 use Rattle.mr_values.specs.Timing.{ceil_div}
 use Rattle.mr_values.proofs.Polyphase.{weighted_sum-same}
@@ -24,11 +26,14 @@ use Rattle.pipeline_balance.specs.Tree.{tree_adders}
 use Rattle.pipeline_balance.proofs.CostLemmas.{SameNamed-refl, SameNamed-trans}
 use Rattle.pipeline_balance.proofs.NumberedLemmas.{LeavesFree-refl, LeavesFree-trans, width-later}
 use Rattle.pipeline_balance.proofs.TakenLemmas.{Holds-later}
+use Rattle.net_graph.specs.Depth.{IsPlain, IsShallow}
+use Rattle.pipeline_balance.specs.Shallow.{ArePlain}
+use Rattle.pipeline_balance.proofs.ShallowLemmas.{ArePlain-later}
 use Rattle.stage_law.specs.Streams.{Streams, AreCausal}
 use Rattle.polyphase_fir.specs.Placed.{placed_terms, adders_for, term_adders, leaf_of}
 use Rattle.polyphase_fir.specs.Facts.{adders_below}
 use Rattle.polyphase_fir.specs.Cutting.{IsWideWindow, IsCutWindow}
-use Rattle.polyphase_fir.specs.Sums.{AddsTree}
+use Rattle.polyphase_fir.specs.Sums.{AddsTree, SumsWindow}
 use Rattle.polyphase_fir.specs.Roots.{IsRoot, AddsRoots}
 use Rattle.polyphase_fir.proofs.HeldLemmas.{all_negative-leaves, sum_is, sums_fit, delayed_later}
 use Rattle.polyphase_fir.proofs.TermLemmas.{term_sum-placed, placed_below, term_adders-placed}
@@ -100,6 +105,31 @@ IsRoot-tree {mid} {new} {from} {window} {registers} {root} {levels} streams caus
       ∙ sum_is window streams causal some later cut law x values run v is shown ts places s (suc k) taken'
       ∙ term_sum-placed (λ i. v (pos (suc k) -ℤ pos 1 -ℤ pos i)) up r taps inside
       ∙ weighted_sum-same (phase up r taps) (λ i. v (pos (suc k) -ℤ pos 1 -ℤ pos i)) (λ i. v (pos k -ℤ pos i)) (λ i. ap v (at i));
+}
+
+-- ---- adders one behind another
+
+-- no adder stands before the leaves over a window of plain nodes
+plain_leaves : (cells : List Cell) (group : ℕ) (window : List Node) → ArePlain cells group window → (ts : List Term) → All (λ (u : Term). u.index < length window) ts → (k : ℕ) (leaf : Leaf) → slice_get (map (leaf_of window) ts) k ≡ Some leaf
+    → IsPlain cells group leaf.node.place
+plain_leaves cells group window plain [] below k leaf e = absurd (cc)
+plain_leaves cells group window plain (t ∷ ts) below zero leaf e =
+    let same : leaf_of window t ≡ leaf = cc in
+    let inside = All-head (λ (u : Term). u.index < length window) t ts below in
+    subst (λ (l : Leaf). IsPlain cells group l.node.place) same (plain.each t.index (leaf_of window t).node (slice_get-get_or window t.index (record { place = 0 }) inside))
+plain_leaves cells group window plain (t ∷ ts) below (suc k) leaf e = plain_leaves cells group window plain ts (All-tail (λ (u : Term). u.index < length window) t ts below) k leaf e
+
+pub SumsWindow-none : (net : NetView) (window : List Node) → SumsWindow net net window
+SumsWindow-none net window = record { shallow = λ s plain. s }
+
+pub SumsWindow-push : {old mid new : NetView} {window : List Node} {registers : List Node} {root : Node} {levels : ℕ} (streams : Streams) (taps : List ℤ) (up r : ℕ) → r < up → ceil_div (length taps) up ≡ length window → mid.group ≡ old.group → Extends old.cells mid.cells
+    → SumsWindow old mid window → AddsTree streams mid new window (placed_terms up r taps) levels registers root → SumsWindow old new window
+SumsWindow-push {old} {mid} {new} {window} streams taps up r inside long same e p t = record {
+  shallow = λ s plain.
+      let places : All (λ (u : Term). u.index < length window) (placed_terms up r taps) = subst (λ (n : ℕ). All (λ (u : Term). u.index < n) (placed_terms up r taps)) long (placed_below up r taps (omega arith)) in
+      let s1 : IsShallow mid.cells mid.group = subst (λ (g : ℕ). IsShallow mid.cells g) (sym same) (p.shallow s plain) in
+      let plain1 : ArePlain mid.cells mid.group window = subst (λ (g : ℕ). ArePlain mid.cells g window) (sym same) (ArePlain-later old.cells mid.cells old.group window s.bound e plain) in
+      subst (λ (g : ℕ). IsShallow new.cells g) same (t.tree.shallow.shallow s1 (record { each = plain_leaves mid.cells mid.group window plain1 (placed_terms up r taps) places }));
 }
 
 -- ---- all phases

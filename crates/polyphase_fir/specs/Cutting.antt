@@ -14,6 +14,7 @@ use Rattle.net_graph.specs.Grow.{Grows}
 use Rattle.pipeline_balance.specs.Costs.{SameAdders, SameNamed}
 use Rattle.pipeline_balance.specs.Gate.{Carries, Holds}
 use Rattle.pipeline_balance.specs.Numbered.{LeavesFree, IsTouched}
+use Rattle.pipeline_balance.specs.Shallow.{ArePlain}
 use Rattle.stage_law.specs.Streams.{Streams}
 use Rattle.polyphase_fir.specs.Held.{IsFormWidth}
 
@@ -42,11 +43,12 @@ pub record IsCutWindow (streams : Streams) (cells : List Cell) (from : Stream) (
   pub carries : (cut : Cut) → IsCut cut → (inputs : ℕ → ℤ) (values : Values) (v : Sequence) → streams v → IsRun cut cells inputs values → Carries values from v → Carries values taken v
   pub holds : (age : ℕ) (node : Node) → slice_get nodes age ≡ Some node → Holds cells taken age node
 
--- the new net has such a window, and so many window registers more
+-- the new net has such a window, and so many window registers more, before which no adder stands
 pub record AddsWindow (streams : Streams) (old new : NetView) (from : Stream) (nodes : List Node) : Type 0 where
   pub grows : Grows old new
   pub window : IsCutWindow streams new.cells from nodes
   pub wide : IsWideWindow streams new.cells nodes
+  pub plain : ArePlain new.cells old.group nodes
   pub adders : SameAdders old.cells new.cells
   pub windows : windows_in old.group new.cells ≡ windows_in old.group old.cells + length nodes
   pub tables : tables_in old.group new.cells ≡ tables_in old.group old.cells

@@ -3,8 +3,10 @@ use Rattle.std.specs.Prelude.{◌≡◌, ℕ, ◌^◌, ◌≤◌, List, length, 
 use Rattle.net_graph.specs.declared.cell.Cell.{Cell}
 use Rattle.net_graph.specs.declared.cell.Node.{Node}
 use Rattle.net_graph.specs.Cells.{NetView}
+use Rattle.net_graph.specs.Depth.{IsShallow}
 use Rattle.signed_digit.specs.declared.term_list.Term.{Term}
 use Rattle.pipeline_balance.specs.Leaves.{IsLeaf, IsNegatable}
+use Rattle.pipeline_balance.specs.Shallow.{ArePlain}
 use Rattle.pipeline_balance.specs.Tree.{IsTree}
 use Rattle.stage_law.specs.Streams.{Streams}
 use Rattle.polyphase_fir.specs.Placed.{leaf_of, all_minus}
@@ -16,6 +18,10 @@ pub record AddsTree (streams : Streams) (old new : NetView) (window : List Node)
   pub widths : List ℕ
   pub least : AreTreeWidths streams (length window) terms levels widths
   pub tree : IsTree old new (map (leaf_of window) terms) widths levels registers root
+
+-- the new net is shallow where the old was and no adder stood before the window's nodes
+pub record SumsWindow (old new : NetView) (window : List Node) : Type 0 where
+  pub shallow : IsShallow old.cells old.group → ArePlain old.cells old.group window → IsShallow new.cells old.group
 
 -- the tree of these terms over the window may be built with so many levels
 pub record IsReady (streams : Streams) (cells : List Cell) (window : List Node) (terms : List Term) (levels : ℕ) : Type 0 where

@@ -6,6 +6,7 @@ ghost use Rattle.net_graph.specs.Grow.{Extends};
 ghost use Rattle.stage_law.specs.Streams.{HasRoom, magnitudes};
 ghost use Rattle.polyphase_fir.specs.Cutting.{IsWideWindow, IsCutWindow};
 ghost use Rattle.polyphase_fir.specs.Roots.{AddsRoots};
+ghost use Rattle.polyphase_fir.specs.Sums.{SumsWindow};
 
 use crate::places::placed_terms;
 use crate::polyphase::Polyphase;
@@ -30,6 +31,7 @@ pub(crate) fn phase_roots<R: Ranges>(
     ensures many { IfOk result (λ roots. length roots.items ≡ filter.now.rates.up) }
     ensures ok { IfOk result (λ roots. (from : Stream) → 1 ≤ from.period → IsCutWindow (R.streams ranges.now) net.old.cells from window.now
         → AddsRoots (R.streams ranges.now) net.old net.new from filter.now.levels filter.now.taps.items filter.now.rates.up roots.items) }
+    ensures shallow { IfOk result (λ _. SumsWindow net.old net.new window.now) }
     ensures extends { Extends net.old.cells net.new.cells }
     ensures group { net.new.group ≡ net.old.group }
 {

@@ -15,10 +15,14 @@ use Rattle.net_graph.specs.Count.{adders_in}
 use Rattle.net_graph.proofs.CountLemmas.{adders_plain, adders_more}
 use Rattle.net_graph.proofs.CutLemmas.{IsCut-all}
 use Rattle.net_graph.proofs.GrowLemmas.{Grows-trans}
+use Rattle.net_graph.proofs.NetLemmas.{cell_of_added}
+use Rattle.net_graph.proofs.DepthLemmas.{IsPlain-later, IsShallow-adds}
+use Rattle.net_graph.specs.Depth.{IsPlain, begins, IsShallow}
 use Rattle.pipeline_balance.specs.Tree.{AddsNode}
 use Rattle.pipeline_balance.proofs.CostLemmas.{SameNamed-trans}
 use Rattle.pipeline_balance.proofs.NumberedLemmas.{LeavesFree-trans}
 use Rattle.pipeline_balance.proofs.PairLemmas.{AddsNode-adds}
+use Rattle.pipeline_balance.proofs.ShallowLemmas.{shallow_same}
 use Rattle.plan_check.proofs.Narrow.{div_mono}
 use Rattle.stage_law.specs.declared.ranges.Range.{Range}
 use Rattle.rounding_stage.specs.Map.{IsMap}
@@ -48,6 +52,7 @@ IsMap-floor {old} {new} {from} {to} {range} {shift} {w} data_group a least =
       counts = node.counts;
       same_named = node.same_named;
       names = node.names;
+      shallow = record { shallow = λ s plain. shallow_same old.group node.grows (adders_plain old.group a refl) s };
       within = node.computes.within;
       maps = λ x v r t low high.
           node.computes.holds cut_all IsCut-all x v r t
@@ -66,6 +71,12 @@ IsMap-sum {old} {mid} {new} {from} {constant} {to} {range} {half} {w} {u} data_g
       counts = adders_more old.group b refl a.group ∙ ap (λ (n : ℕ). n + 1) (adders_plain old.group a refl);
       same_named = SameNamed-trans first.same_named second.same_named;
       names = LeavesFree-trans old.cells mid.cells new.cells (λ name. ⊥) (λ name. ⊥) (λ name. ⊥) (λ name h. h) (λ name h. h) first.names second.names;
+      shallow = record {
+        shallow = λ s plain.
+            let s1 : IsShallow mid.cells mid.group = subst (λ (g : ℕ). IsShallow mid.cells g) (sym a.group) (shallow_same old.group first.grows (adders_plain old.group a refl) s) in
+            let left : IsPlain mid.cells mid.group from.place = subst (λ (g : ℕ). IsPlain mid.cells g from.place) (sym a.group) (IsPlain-later old.cells mid.cells old.group s.bound first.grows.extends from.place plain) in
+            subst (λ (g : ℕ). IsShallow new.cells g) a.group (IsShallow-adds b s1 (left, begins constant.place _ (cell_of_added a) refl));
+      };
       within = second.computes.within;
       maps = λ x v r t low high.
           let held : v t constant.place ≡ half = first.computes.holds cut_all IsCut-all x v (second.grows.extends.runs cut_all IsCut-all x v r) t ∙ ap (wrap u) (wrap_fits u half narrow.positive narrow.holds_low) ∙ wrap_fits u half narrow.positive narrow.holds_low in
@@ -85,6 +96,11 @@ IsMap-then {old} {mid} {new} {from} {sum} {to} {range} {half} {g} p q = record {
       omega arith;
   same_named = SameNamed-trans p.same_named q.same_named;
   names = LeavesFree-trans old.cells mid.cells new.cells (λ name. ⊥) (λ name. ⊥) (λ name. ⊥) (λ name h. h) (λ name h. h) p.names q.names;
+  shallow = record {
+    shallow = λ s plain.
+        let second : adders_in old.group new.cells ≡ adders_in old.group mid.cells + 0 = subst (λ (group : ℕ). adders_in group new.cells ≡ adders_in group mid.cells + 0) p.grows.group q.counts in
+        shallow_same old.group q.grows (second ∙ omega arith) (p.shallow.shallow s plain);
+  };
   within = q.within;
   maps = λ x v r t low high.
       let is = p.maps x v (q.grows.extends.runs cut_all IsCut-all x v r) t low high in

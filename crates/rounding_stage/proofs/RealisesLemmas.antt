@@ -13,7 +13,9 @@ use Rattle.net_graph.specs.Cells.{NetView}
 use Rattle.net_graph.specs.Cut.{cut_all}
 use Rattle.net_graph.proofs.CutLemmas.{IsCut-all}
 use Rattle.net_graph.proofs.GrowLemmas.{Grows-trans}
+use Rattle.net_graph.proofs.DepthLemmas.{IsShallow-none, IsPlain-untouched}
 use Rattle.pipeline_balance.specs.Gate.{HasTaken}
+use Rattle.pipeline_balance.proofs.ShallowLemmas.{shallow_more}
 use Rattle.pipeline_balance.specs.Numbered.{IsTouched}
 use Rattle.pipeline_balance.proofs.NumberedLemmas.{LeavesFree-trans}
 use Rattle.stage_law.specs.declared.ranges.Range.{Range}
@@ -76,10 +78,10 @@ touched_own group name (inl h) = inl h.0
 touched_own group name (inr h) = inr h
 
 pub Realises-rounding : {old mid new : NetView} {from : Stream} {sum register : Node} {range : Range} {shift : ℕ} {mode : Mode} {streams : Streams} (emitted : Emitted)
-    → emitted.stream ≡ record { node = register; period = from.period; offset = from.offset + 1 } → 1 ≤ old.group → 1 ≤ from.period
+    → emitted.stream ≡ record { node = register; period = from.period; offset = from.offset + 1 } → from.node.place < length old.cells → 1 ≤ old.group → 1 ≤ from.period
     → IsMap old mid from.node range (round_value mode shift) (rounding_adders mode) sum → IsHeld mid new (record { node = sum; period = from.period; offset = from.offset }) register → IsRange streams one every range
     → Realises (rounding_facts shift mode) streams old new from emitted
-Realises-rounding {old} {mid} {new} {from} {sum} {register} {range} {shift} {mode} {streams} emitted is data_group positive m d r = record {
+Realises-rounding {old} {mid} {new} {from} {sum} {register} {range} {shift} {mode} {streams} emitted is inside data_group positive m d r = record {
   grows = Grows-trans m.grows d.grows;
   within = subst (λ (to : Stream). to.node.place < length new.cells) (sym is) d.holds.within;
   period = ap (λ (to : Stream). to.period * 1) is;
@@ -100,6 +102,8 @@ Realises-rounding {old} {mid} {new} {from} {sum} {register} {range} {shift} {mod
   adders = d.same_adders.each old.group data_group ∙ m.counts;
   windows = d.same_named.windows old.group ∙ m.same_named.windows old.group ∙ omega arith;
   tables = d.same_named.tables old.group ∙ m.same_named.tables old.group ∙ omega arith;
+  shallow = λ bound none.
+      shallow_more old.group data_group d.grows d.same_adders (m.shallow.shallow (IsShallow-none old.cells old.group bound none) (IsPlain-untouched old.cells old.group from.node.place none inside));
   names = LeavesFree-trans old.cells mid.cells new.cells (λ name. ⊥) (IsTouched mid.group Register) (IsOwnName old.group) (λ name h. absurd h)
       (λ name h. touched_own old.group name (subst (λ (g : ℕ). IsTouched g Register name) m.grows.group h)) m.names d.names;
 }

@@ -1,11 +1,10 @@
 -- The registers of a linear stage: each holds in the run what it holds uncut, and has the least width for it.
-use Rattle.std.specs.Prelude.{◌≡◌, ℕ, ◌+◌, ◌-◌, ◌*◌, ◌<◌, ◌≤◌, ◌⊎◌, ℤ, pos, Bool, if◌then◌else◌, true, List, length, Some, slice_get, IsSome}
+use Rattle.std.specs.Prelude.{◌≡◌, ℕ, ◌+◌, ◌-◌, ◌*◌, ◌<◌, ◌≤◌, ◌⊎◌, ℤ, pos, Bool, if◌then◌else◌, true, List, length, Some, slice_get}
 use Rattle.mr_values.specs.Sequence.{Sequence, filter}
 use Rattle.mr_values.specs.Width.{FitsWidth}
 use Rattle.net_graph.specs.declared.cell.Cell.{Cell}
 use Rattle.net_graph.specs.declared.cell.Node.{Node}
 use Rattle.net_graph.specs.declared.cell.Stream.{Stream}
-use Rattle.net_graph.specs.declared.cell.Item.{Item}
 use Rattle.net_graph.specs.declared.cell.Item.TheVariants.{Register}
 use Rattle.net_graph.specs.Cells.{NetView}
 use Rattle.net_graph.specs.Cut.{Cut, IsCut, cut_all, cut_control}

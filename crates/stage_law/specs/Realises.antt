@@ -1,5 +1,5 @@
 -- What the nodes of a stage do.
-use Rattle.std.specs.Prelude.{◌≡◌, ℕ, ◌+◌, ◌*◌, ◌<◌, ◌≤◌, ◌⊎◌, ℤ, true, List, length}
+use Rattle.std.specs.Prelude.{◌≡◌, ℕ, ◌+◌, ◌*◌, ◌<◌, ◌⊎◌, ℤ, true, List, length}
 use Rattle.mr_values.specs.declared.plan.Element.{Element}
 use Rattle.mr_values.specs.Sequence.{Sequence}
 use Rattle.mr_values.specs.Value.{chain}
@@ -11,9 +11,10 @@ use Rattle.net_graph.specs.declared.name.NameKind.TheVariants.{Control}
 use Rattle.net_graph.specs.Cells.{NetView}
 use Rattle.net_graph.specs.Count.{adders_in, windows_in, tables_in}
 use Rattle.net_graph.specs.Cut.{Cut, cut_all, cut_control}
+use Rattle.net_graph.specs.Depth.{IsShallow, IsUntouched}
 use Rattle.net_graph.specs.Grow.{Grows}
 use Rattle.net_graph.specs.Run.{Values, IsRun}
-use Rattle.net_graph.specs.WellFormed.{IsFree}
+use Rattle.net_graph.specs.WellFormed.{IsBound, IsFree}
 use Rattle.pipeline_balance.specs.Gate.{Carries}
 use Rattle.pipeline_balance.specs.Numbered.{LeavesFree, name_of}
 use Rattle.stage_law.specs.Facts.{StageFacts}
@@ -41,7 +42,8 @@ CarriesThrough cut streams elements cells from to =
 
 -- The net grows by nodes of its group and of control. The stream that the stage gives has the stated period and offset and carries the
 -- elements, in the run and, for all stages but a rounding, in the uncut run. The net has so many adders, windows and tables more of its
--- group, and names of this group or of control alone are taken.
+-- group, and names of this group or of control alone are taken. Where the group is new and each register had its next, at most one adder
+-- of the group stands between two registers.
 pub record Realises (facts : StageFacts) (streams : Streams) (old new : NetView) (from : Stream) (emitted : Emitted) : Type 0 where
   pub grows : Grows old new
   pub within : emitted.stream.node.place < length new.cells
@@ -53,3 +55,4 @@ pub record Realises (facts : StageFacts) (streams : Streams) (old new : NetView)
   pub windows : windows_in old.group new.cells ≡ windows_in old.group old.cells + facts.windows
   pub tables : tables_in old.group new.cells ≡ tables_in old.group old.cells + facts.tables
   pub names : LeavesFree old.cells new.cells (IsOwnName old.group)
+  pub shallow : IsBound old.cells → IsUntouched old.cells old.group → IsShallow new.cells old.group

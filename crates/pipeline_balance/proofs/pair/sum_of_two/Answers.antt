@@ -16,14 +16,14 @@ returns-in_err-node-clause-extends c =
 
 pub returns-then-a-clause-ok : goal.returns-then-a-clause-ok
 returns-then-a-clause-ok c =
-    AddsSum-two c.args.a c.args.b c.args.width _ c.in_ok-left.ensures.ok c.in_ok-right.ensures.ok c.in_ok-sum.ensures.ok c.in_ok-node.ensures.ok (rw c.if-a.true refl)
+    AddsSum-two c.args.a c.args.b c.args.width _ c.in_ok-left.ensures.ok c.in_ok-right.ensures.ok c.in_ok-sum.ensures.ok c.in_ok-node.ensures.ok (rw c.if-a.true refl) c.in_ok-left.ensures.plain c.in_ok-right.ensures.plain c.in_ok-sum.ensures.shallow
 
 pub returns-then-a-clause-extends : goal.returns-then-a-clause-extends
 returns-then-a-clause-extends c = (returns-then-a-clause-ok c).grows.extends
 
 pub returns-else-a-clause-ok : goal.returns-else-a-clause-ok
 returns-else-a-clause-ok c =
-    AddsSum-two c.args.a c.args.b c.args.width _ c.in_ok-left.ensures.ok c.in_ok-right.ensures.ok c.in_ok-sum.ensures.ok c.in_ok-node.ensures.ok (c.if-a.false ∙ sym (ap (λ (m : Bool). cond m c.args.b.negative false) c.if-a.false))
+    AddsSum-two c.args.a c.args.b c.args.width _ c.in_ok-left.ensures.ok c.in_ok-right.ensures.ok c.in_ok-sum.ensures.ok c.in_ok-node.ensures.ok (c.if-a.false ∙ sym (ap (λ (m : Bool). cond m c.args.b.negative false) c.if-a.false)) c.in_ok-left.ensures.plain c.in_ok-right.ensures.plain c.in_ok-sum.ensures.shallow
 
 pub returns-else-a-clause-extends : goal.returns-else-a-clause-extends
 returns-else-a-clause-extends c = (returns-else-a-clause-ok c).grows.extends

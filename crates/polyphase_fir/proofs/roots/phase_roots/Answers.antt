@@ -7,7 +7,7 @@ use Rattle.polyphase_fir.specs.Placed.{placed_terms}
 use Rattle.polyphase_fir.specs.Sums.{AddsTree}
 use Rattle.polyphase_fir.specs.Roots.{AddsRoots}
 use Rattle.polyphase_fir.proofs.PhaseBounds.{IsReady-placed}
-use Rattle.polyphase_fir.proofs.RootLemmas.{IsWideWindow-later, IsCutWindow-later, AddsRoots-none, AddsRoots-push}
+use Rattle.polyphase_fir.proofs.RootLemmas.{IsWideWindow-later, IsCutWindow-later, AddsRoots-none, AddsRoots-push, SumsWindow-none, SumsWindow-push}
 use Rattle.polyphase_fir.proofs.roots.phase_roots.Goals as goal
 
 pub loop-phase-init : goal.loop-phase-init
@@ -16,6 +16,7 @@ loop-phase-init g c = record {
   group = refl;
   extends = Extends-refl _;
   trees = λ from positive w. rw c.new-roots.ensures.items (AddsRoots-none _ _ _ _ _ _);
+  shallow = SumsWindow-none c.args.net.now c.args.window.now;
 }
 
 pub phase_tree-requires-clause-data_group : goal.phase_tree-requires-clause-data_group
@@ -58,4 +59,5 @@ loop-phase-preserved g c =
       trees = λ from positive w.
           subst (λ (roots : List Node). AddsRoots streams c.args.net.now c.phase_tree.new.net from p.levels p.taps.items p.rates.up roots) (sym items)
           (AddsRoots-push streams (g.met.R.Ranges.causal c.args.ranges.now) p.taps.items p.rates.up inside positive (IsCutWindow-later streams i.extends w) long (i.trees from positive w) tree);
+      shallow = SumsWindow-push streams p.taps.items p.rates.up (length c.loop-phase.roots.items) inside long i.group i.extends i.shallow tree;
     }

@@ -3,6 +3,7 @@ use Rattle.net_graph.specs.declared.cell.Stream.{Stream}
 use Rattle.net_graph.specs.Grow.{Extends}
 use Rattle.polyphase_fir.specs.Cutting.{IsCutWindow}
 use Rattle.polyphase_fir.specs.Roots.{AddsRoots}
+use Rattle.polyphase_fir.specs.Sums.{SumsWindow}
 use Rattle.polyphase_fir.proofs.roots.phase_roots.Given as goal
 
 -- the trees so far
@@ -13,4 +14,5 @@ invariant-loop-phase g l = record {
   extends : Extends l.fn.net.cells l.net.cells;
   trees : (from : Stream) → 1 ≤ from.period → IsCutWindow (g.R.Ranges.streams l.ranges) l.fn.net.cells from l.window
       → AddsRoots (g.R.Ranges.streams l.ranges) l.fn.net l.net from l.filter.levels l.filter.taps.items l.filter.rates.up l.roots.items;
+  shallow : SumsWindow l.fn.net l.net l.window;
 }

@@ -4,6 +4,7 @@ use Rattle.net_graph.specs.declared.cell.Node.{Node}
 use Rattle.net_graph.proofs.NetLemmas.{Extends-trans}
 use Rattle.polyphase_fir.specs.Cutting.{IsWideWindow, IsCutWindow}
 use Rattle.polyphase_fir.specs.Roots.{IsShown}
+use Rattle.polyphase_fir.specs.Sums.{SumsWindow}
 use Rattle.polyphase_fir.proofs.RealisesLemmas.{Realises-phases}
 use Rattle.polyphase_fir.proofs.stage.PolyphaseStage.emit.Goals as goal
 
@@ -45,5 +46,6 @@ returns-clause-realises g c =
     let window = subst (λ (nodes : List Node). IsCutWindow streams c.cut_window.new.net.cells c.args.from nodes) (sym c.as_slice.ensures.value) c.in_ok-window.ensures.ok.window in
     let trees = c.in_ok-roots.ensures.ok c.args.from c.requires.takes.some window in
     let shown = subst (λ (nodes : List Node). IsShown c.phase_roots.new.net c.shown.new.net nodes p.rates.up p.rates.down c.args.from p.levels c.in_ok-stream.stream) c.as_slice-2.ensures.value c.in_ok-stream.ensures.ok in
+    let sums = subst (λ (nodes : List Node). SumsWindow c.cut_window.new.net c.phase_roots.new.net nodes) c.as_slice.ensures.value c.in_ok-roots.ensures.shallow in
     let long : ceil_div (length p.taps.items) p.rates.up ≡ length c.in_ok-window.window.items = sym p.is_depth ∙ sym c.in_ok-window.ensures.many in
-    Realises-phases streams p.taps.items p.rates.up p.rates.down p.up_low c.requires.takes.some c.requires.group c.in_ok-window.ensures.ok long trees c.in_ok-roots.ensures.many shown p.is_levels _ refl
+    Realises-phases streams p.taps.items p.rates.up p.rates.down p.up_low c.requires.takes.some c.requires.group c.in_ok-window.ensures.ok long trees c.in_ok-roots.ensures.many shown sums p.is_levels _ refl

@@ -13,7 +13,7 @@ pub rounded-requires-clause-ordered : goal.rounded-requires-clause-ordered
 rounded-requires-clause-ordered g c = range_ordered _ _ _ _ c.range-range.ensures
 
 pub returns-clause-realises : goal.returns-clause-realises
-returns-clause-realises g c = Realises-rounding _ refl c.requires.group c.requires.takes c.in_ok-node.ensures.ok c.in_ok-register.ensures.ok c.range-range.ensures
+returns-clause-realises g c = Realises-rounding _ refl c.requires.within c.requires.group c.requires.takes c.in_ok-node.ensures.ok c.in_ok-register.ensures.ok c.range-range.ensures
 
 pub returns-clause-extends : goal.returns-clause-extends
 returns-clause-extends g c = Extends-trans _ _ _ c.in_ok-node.ensures.extends c.in_ok-register.ensures.extends
