@@ -1,35 +1,23 @@
 // A simulation of a stimulus that comes in pieces.
 ghost use Rattle.std.specs.Prelude.{◌≡◌, ◌≤◌, ◌<◌, ◌+◌, ◌^◌, ◌⊎◌, ◌++◌, length, IfOk, OnOk};
 ghost use Rattle.verilog_tree.specs.View.{design_view};
-ghost use Rattle.clock_sim.specs.Sim.{IsSound, register_count};
+ghost use Rattle.clock_sim.specs.Sim.{IsSound};
 ghost use Rattle.sample_file.specs.Reading.{most_before};
 ghost use Rattle.sim_stream.specs.Stream.{IsStart};
 ghost use Rattle.sim_stream.specs.Ends.{Advances, Finishes};
 
 use crate::cycle::run_cycle;
+use crate::start::zero_sim;
 use clock_sim::Sim;
 use mr_values::Memory;
 use row_stream::StreamFault;
 use sample_file::Lines;
 use std::alloc::Global;
 use std::marker::Model;
-use verilog_tree::{Kind, Module};
+use verilog_tree::Module;
 
 /// The output of a call is full where it is longer than this: one more line has at most 124 bytes, and 65,536 are the limit.
 const FULL: usize = 65_412;
-
-// How many registers a module has.
-fn register_count(design: &Module) -> usize
-    ensures { result ≡ register_count design.now.signals.items }
-{
-    let mut count = 0;
-    for signal in design.signals.as_slice() {
-        if signal.kind == Kind::Reg {
-            count += 1;
-        }
-    }
-    count
-}
 
 /// A simulation of a module, in the midst of its stimulus.
 #[derive(Drop)]
@@ -80,10 +68,9 @@ impl<'a> SimStream<'a> {
         requires { IsSound (design_view design.now) }
         ensures { IfOk result (λ stream. IsStart stream design.now) }
     {
-        let initial = Vec::from_elem(alloc, 0u128, register_count(design))?;
         Ok(SimStream {
             lines: Lines::new(alloc, 3)?,
-            sim: Sim::start(alloc, design, &initial)?,
+            sim: zero_sim(alloc, design)?,
             cycle: 0,
             tick: 0,
         })
