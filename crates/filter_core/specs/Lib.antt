@@ -3,7 +3,6 @@ pub mod WholeFiles
 pub mod PlanFaults
 pub mod PlanFile
 pub mod Reading
-pub mod Report
 pub mod CommandWords
 pub mod Compile
 pub mod Noble

@@ -8,7 +8,6 @@ mod fault_lines;
 mod fault_words;
 mod files;
 mod noble_command;
-mod report;
 mod status;
 mod tool;
 mod words;

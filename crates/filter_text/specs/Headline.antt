@@ -84,13 +84,10 @@ abbrev pub AreCounted : ℕ → List Group → Design → Type 0
 AreCounted number [] d = Unit {0}
 AreCounted number (g ∷ gs) d = IsCounted g number d × AreCounted (number + 1) gs d
 
--- the bytes read as one module, it passes every check, from any content it runs over any cycles, cut and uncut, its output has the least
--- width for the span of the last stream, it shows the chain, and its groups cost what they cost as stages; where no group rounds, its
--- output register is never cut
-pub record IsTextOf (elements : List Element) (width ticks latency period : ℕ) (bytes : List ℕ) : Type 0 where
-  pub design : Design
-  pub reads : Reads bytes design
-  pub only : (other : Design) → Reads bytes other → other ≡ design
+-- the module passes every check, from any content it runs over any cycles, cut and uncut, its output has the least width for the span of
+-- the last stream, it shows the chain, and its groups cost what they cost as stages; where no group rounds, its output register is never
+-- cut
+pub record IsModuleOf (elements : List Element) (width ticks latency period : ℕ) (design : Design) : Type 0 where
   pub passes : Passes design
   pub runs : HasRuns design
   pub one_uncut : HasOneUncutRun design
@@ -98,3 +95,10 @@ pub record IsTextOf (elements : List Element) (width ticks latency period : ℕ)
   pub shows : ShowsChain elements width ticks latency period design
   pub uncut : ArePlainGroups (groups elements) → KeepsOutput elements width ticks latency period design
   pub costs : AreCounted 1 (groups elements) design
+
+-- the bytes read as one module, which is that of the chain
+pub record IsTextOf (elements : List Element) (width ticks latency period : ℕ) (bytes : List ℕ) : Type 0 where
+  pub design : Design
+  pub reads : Reads bytes design
+  pub only : (other : Design) → Reads bytes other → other ≡ design
+  pub is_module : IsModuleOf elements width ticks latency period design
