@@ -9,6 +9,7 @@ mod fault_words;
 mod files;
 mod noble_command;
 mod report;
+mod row_files;
 mod status;
 mod tool;
 mod words;
