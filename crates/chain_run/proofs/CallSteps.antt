@@ -9,11 +9,6 @@ pub some-not-none : (r : Result ℕ StreamFault) (P : Type 0) → IfOk r (λ tak
 some-not-none (Ok taken) P some = λ none. absurd (omega (arith, some, none))
 some-not-none (Err fault) P some = tt
 
--- a bound that holds after each call that takes bytes
-pub bound-kept : (limit taken more old new : ℕ) → (0 < taken → old ≤ limit) → (0 < more → new ≤ limit) → (more ≡ 0 → new ≡ old) → 0 < taken + more → new ≤ limit
-bound-kept limit taken zero old new before after same some = let first : old ≤ limit = before (omega arith) in let equal : new ≡ old = same refl in omega arith
-bound-kept limit taken (suc more) old new before after same some = after (omega arith)
-
 -- where the output got full, less is left
 pub less-left : (r : Result Bool StreamFault) (a b c d : List ℕ) (left_a left_b left_c left_d : ℕ) → length a ≤ 65000 → left_b ≤ left_a → (left_b ≡ left_a → b ≡ a) → left_c ≤ left_b → (left_c ≡ left_b → c ≡ b)
     → OnOk r (left_d ≤ left_c) → OnOk r (left_d ≡ left_c → d ≡ c) → IfOk r (λ all. all ≡ false → 65000 < length d) → IfOk r (λ all. all ≡ false → left_d < left_a)

@@ -2,7 +2,7 @@ use Rattle.std.proofs.Common.{◌^◌, Ok, Err, List, ℕ, subst, arith}
 use Rattle.std.proofs.lemmas.Result.{err_from_is_err_and}
 use Rattle.row_stream.specs.Giving.{Takes}
 use Rattle.chain_run.specs.Stream.{GivesFrom, bytes_before}
-use Rattle.chain_run.proofs.CallSteps.{bound-kept}
+use Rattle.row_stream.proofs.TurnSteps.{bound-kept, same-kept}
 use Rattle.chain_run.proofs.GivingSteps.{takes-more, takes-fault}
 use Rattle.chain_run.proofs.stream.ChainStreamRowStream.advance.Goals as goal
 
@@ -22,6 +22,7 @@ rows-preserved c =
       within = omega (arith, c.in_ok-taken.ensures.within, c.split_at.ensures.back_len);
       bytes = omega (arith, c.rows.invariant.bytes, c.in_ok-taken.ensures.bytes);
       bound = bound-kept (2 ^ 45) c.rows.taken c.in_ok-taken.field-0 (bytes_before c.rows.self) (bytes_before c.turn.new.self) c.rows.invariant.bound c.in_ok-taken.ensures.bound c.in_ok-taken.ensures.same;
+      same = same-kept c.rows.taken c.in_ok-taken.field-0 (bytes_before c.args.self.now) (bytes_before c.rows.self) (bytes_before c.turn.new.self) c.rows.invariant.same c.in_ok-taken.ensures.same;
       some = omega (arith, c.rows.invariant.some, c.in_ok-taken.ensures.some);
       none = λ e. absurd (omega (arith, e, c.rows.invariant.some, c.in_ok-taken.ensures.some));
       unchanged = λ e. absurd (omega (arith, e, c.rows.invariant.some, c.in_ok-taken.ensures.some));

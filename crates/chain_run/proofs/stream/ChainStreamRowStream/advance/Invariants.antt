@@ -9,6 +9,7 @@ invariant-rows l = record {
   within : l.taken ≤ length l.piece;
   bytes : bytes_before l.initial.self + l.taken ≤ bytes_before l.self;
   bound : 0 < l.taken → bytes_before l.self ≤ 2 ^ 45;
+  same : l.taken ≡ 0 → bytes_before l.self ≡ bytes_before l.initial.self;
   some : ticks_due l.self ≤ ticks_due l.initial.self + l.taken * 2 ^ 17;
   none : ticks_due l.self ≡ ticks_due l.initial.self + l.taken * 2 ^ 17 → l.taken ≡ 0;
   unchanged : ticks_due l.self ≡ ticks_due l.initial.self + l.taken * 2 ^ 17 → l.out.items ≡ l.initial.out.items;
