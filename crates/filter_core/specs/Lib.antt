@@ -1,5 +1,7 @@
 pub mod Ends
 pub mod WholeFiles
+pub mod RowFiles
+pub mod RowSteps
 pub mod PlanFaults
 pub mod PlanFile
 pub mod Reading

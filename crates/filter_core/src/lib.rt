@@ -8,6 +8,7 @@ mod fault_lines;
 mod fault_words;
 mod files;
 mod noble_command;
+mod row_files;
 mod status;
 mod tool;
 mod words;

@@ -47,10 +47,11 @@ events_before d before settled = events_of (shapes_of d) (ports_of d) before set
 abbrev pub events_after : Design → List Cycle → List Cycle → List Values → List Event
 events_after d before after settled = events_of (shapes_of d) (ports_of d) after (drop (length before + 1) settled) (length before + 1) 0
 
--- For every content of the registers and every list of cycles with a reset, whatever the samples and clock enables: what is shown after
--- the last reset cycle is exactly value n of the chain over the samples since then, at the tick latency + n * period, for each n whose
--- tick has come, and nothing at any other tick.
+-- `in_data` has as many bits as a sample. For every content of the registers and every list of cycles with a reset, whatever the samples
+-- and clock enables: what is shown after the last reset cycle is exactly value n of the chain over the samples since then, at the tick
+-- latency + n * period, for each n whose tick has come, and nothing at any other tick.
 pub record ShowsChain (elements : List Element) (width ticks latency period : ℕ) (d : Design) : Type 0 where
+  pub takes : (shapes_of d).width (ports_of d).in_data ≡ width
   pub parts : (content : Values) (before after : List Cycle) (reset : Cycle) (settled : List Values) → IsRunFrom d width content before after reset settled
       → events_of (shapes_of d) (ports_of d) (before ++ reset ∷ after) settled 0 0 ≡ events_before d before settled ++ events_after d before after settled
   pub shows : (content : Values) (before after : List Cycle) (reset : Cycle) (settled : List Values) → IsRunFrom d width content before after reset settled

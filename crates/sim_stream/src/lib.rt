@@ -3,8 +3,11 @@
 
 mod cycle;
 mod laws;
+mod start;
 mod stream;
 
+pub use cycle::signed_value;
 pub use laws::law_of_one_text;
 pub use row_stream::StreamFault;
+pub use start::zero_sim;
 pub use stream::SimStream;
