@@ -60,47 +60,15 @@ clash false t f = absurd (grind arith)
 count-every : (n : ℕ) → how_many (λ k. true) n ≡ n
 count-every n = count-all (λ k. true) n (λ k lt. refl)
 
-module _ (c : Circuit) (sound : IsSound c) (level : ℕ → ℕ) (levelled : IsLevelled c level) where
-  -- ---- the evaluations
+-- ---- the evaluations
 
-  wire_of : (k j : ℕ) → reads_wire c k j ≡ true → (e : Driver) × (slice_get c.drivers j ≡ Some e) × (reads_at c e.target k ≡ true)
-  wire_of k j is = by (slice_get c.drivers j) refl is
-    where
-      by : (o : Option Driver) → slice_get c.drivers j ≡ o → option_map_or (λ (d : Driver). reads_at c d.target k) o false ≡ true → (e : Driver) × (slice_get c.drivers j ≡ Some e) × (reads_at c e.target k ≡ true)
-      by None e holds = absurd (grind arith)
-      by (Some d) e holds = (d, e, holds)
-
-  -- of the assignments that were not evaluated, those with the lowest wires may come next
-  lowest : (taken : List ℕ) (bound k : ℕ) (d : Driver) → slice_get c.drivers k ≡ Some d → level d.target < bound → is_taken taken k ≡ false
-      → (j : ℕ) × (j < length c.drivers) × ((evaluations c).may taken j ≡ true)
-  lowest taken zero k d at lt untaken = absurd (omega (arith, lt))
-  lowest taken (suc bound) k d at lt untaken =
-      by (some_or_none (λ j. reads_wire c k j && not (is_taken taken j)) (length c.drivers)) (λ j e found less left. lowest taken bound j e found less left)
-    where
-      by : ((j : ℕ) × (j < length c.drivers) × ((reads_wire c k j && not (is_taken taken j)) ≡ true)) ⊎ ((j : ℕ) → j < length c.drivers → (reads_wire c k j && not (is_taken taken j)) ≡ false)
-          → ((j : ℕ) (e : Driver) → slice_get c.drivers j ≡ Some e → level e.target < bound → is_taken taken j ≡ false → (j : ℕ) × (j < length c.drivers) × ((evaluations c).may taken j ≡ true))
-          → (j : ℕ) × (j < length c.drivers) × ((evaluations c).may taken j ≡ true)
-      by (inl (j, inside, is)) lower =
-          let parts = and_true (reads_wire c k j) (not (is_taken taken j)) is in
-          let wire = wire_of k j parts.0 in
-          let below = levelled k d at wire.0.target (sym (reads_here c wire.0.target k d at) ∙ wire.2) in
-          lower j wire.0 wire.1 (omega (arith, below, lt)) (not_true (is_taken taken j) parts.1)
-      by (inr none) lower =
-          let closed : open_reads c taken k ≡ 0 = count-empty (λ j. reads_wire c k j && not (is_taken taken j)) (length c.drivers) none in
-          (k, slice_get_within c.drivers k d at, ap (λ (b : Bool). not b && open_reads c taken k == 0) untaken ∙ eq-eqb (open_reads c taken k) 0 closed)
-
-  pub evaluations_proceed : Proceeds (evaluations c) (λ k. true)
-  evaluations_proceed = record {
-    only = λ taken k may. (not_true (is_taken taken k) (and_true (not (is_taken taken k)) (open_reads c taken k == 0) may).0, refl);
-    goes = λ taken k lt untaken due. let there = place_there c.drivers k lt in lowest taken (suc (level there.0.target)) k there.0 there.1 (omega arith) untaken;
-  }
-
+module _ (c : Circuit) where
   -- those that were evaluated are not pending, and all that they read was evaluated
   pub record Evaluated (taken : List ℕ) (m : Moment) : Type 0 where
     pub quiet : (k : ℕ) (d : Driver) → slice_get c.drivers k ≡ Some d → is_taken taken k ≡ true → m.pending k ≡ false
     pub closed : (k j : ℕ) → is_taken taken k ≡ true → j < length c.drivers → reads_wire c k j ≡ true → is_taken taken j ≡ true
 
-  evaluated_more : (taken : List ℕ) (m : Moment) (p : ℕ) (d : Driver) → slice_get c.drivers p ≡ Some d → is_taken taken p ≡ false → open_reads c taken p ≡ 0
+  pub evaluated_more : (taken : List ℕ) (m : Moment) (p : ℕ) (d : Driver) → slice_get c.drivers p ≡ Some d → is_taken taken p ≡ false → open_reads c taken p ≡ 0
       → Evaluated taken m → Evaluated (taken ++ p ∷ []) (evaluated c p d m)
   evaluated_more taken m p d at untaken closed h = record {
     quiet = λ k e found is. quiet k e found (taken-either taken p k is);
@@ -138,8 +106,41 @@ module _ (c : Circuit) (sound : IsSound c) (level : ℕ → ℕ) (levelled : IsL
           joined (if k == p then false else m.pending k) (not (m.values d.target == d.value m.values)) (reads_at c d.target k) (was_quiet k e found side)
           (sym (ap (λ (o : Option Driver). option_map_or (λ (x : Driver). reads_at c x.target k) o false) at) ∙ unread k side (reads_wire c k p) refl)
 
+module _ (c : Circuit) (sound : IsSound c) (level : ℕ → ℕ) (levelled : IsLevelled c level) where
+  wire_of : (k j : ℕ) → reads_wire c k j ≡ true → (e : Driver) × (slice_get c.drivers j ≡ Some e) × (reads_at c e.target k ≡ true)
+  wire_of k j is = by (slice_get c.drivers j) refl is
+    where
+      by : (o : Option Driver) → slice_get c.drivers j ≡ o → option_map_or (λ (d : Driver). reads_at c d.target k) o false ≡ true → (e : Driver) × (slice_get c.drivers j ≡ Some e) × (reads_at c e.target k ≡ true)
+      by None e holds = absurd (grind arith)
+      by (Some d) e holds = (d, e, holds)
+
+  -- of the assignments that were not evaluated, those with the lowest wires may come next
+  lowest : (taken : List ℕ) (bound k : ℕ) (d : Driver) → slice_get c.drivers k ≡ Some d → level d.target < bound → is_taken taken k ≡ false
+      → (j : ℕ) × (j < length c.drivers) × ((evaluations c).may taken j ≡ true)
+  lowest taken zero k d at lt untaken = absurd (omega (arith, lt))
+  lowest taken (suc bound) k d at lt untaken =
+      by (some_or_none (λ j. reads_wire c k j && not (is_taken taken j)) (length c.drivers)) (λ j e found less left. lowest taken bound j e found less left)
+    where
+      by : ((j : ℕ) × (j < length c.drivers) × ((reads_wire c k j && not (is_taken taken j)) ≡ true)) ⊎ ((j : ℕ) → j < length c.drivers → (reads_wire c k j && not (is_taken taken j)) ≡ false)
+          → ((j : ℕ) (e : Driver) → slice_get c.drivers j ≡ Some e → level e.target < bound → is_taken taken j ≡ false → (j : ℕ) × (j < length c.drivers) × ((evaluations c).may taken j ≡ true))
+          → (j : ℕ) × (j < length c.drivers) × ((evaluations c).may taken j ≡ true)
+      by (inl (j, inside, is)) lower =
+          let parts = and_true (reads_wire c k j) (not (is_taken taken j)) is in
+          let wire = wire_of k j parts.0 in
+          let below = levelled k d at wire.0.target (sym (reads_here c wire.0.target k d at) ∙ wire.2) in
+          lower j wire.0 wire.1 (omega (arith, below, lt)) (not_true (is_taken taken j) parts.1)
+      by (inr none) lower =
+          let closed : open_reads c taken k ≡ 0 = count-empty (λ j. reads_wire c k j && not (is_taken taken j)) (length c.drivers) none in
+          (k, slice_get_within c.drivers k d at, ap (λ (b : Bool). not b && open_reads c taken k == 0) untaken ∙ eq-eqb (open_reads c taken k) 0 closed)
+
+  pub evaluations_proceed : Proceeds (evaluations c) (λ k. true)
+  evaluations_proceed = record {
+    only = λ taken k may. (not_true (is_taken taken k) (and_true (not (is_taken taken k)) (open_reads c taken k == 0) may).0, refl);
+    goes = λ taken k lt untaken due. let there = place_there c.drivers k lt in lowest taken (suc (level there.0.target)) k there.0 there.1 (omega arith) untaken;
+  }
+
   pub settle_leads : (m : Moment) (state draws : ℕ) → draws ≤ length c.drivers
-      → (after : Moment) × Leads c m (map Evaluate (drawn_places (evaluations c) state draws)) after × Evaluated (drawn_places (evaluations c) state draws) after
+      → (after : Moment) × Leads c m (map Evaluate (drawn_places (evaluations c) state draws)) after × Evaluated c (drawn_places (evaluations c) state draws) after
   settle_leads m state zero le = (m, refl, record { quiet = λ k d at is. absurd (grind arith); closed = λ k j is lt reads. absurd (grind arith) })
   settle_leads m state (suc draws) le =
       let taken = drawn_places (evaluations c) state draws in
@@ -151,7 +152,7 @@ module _ (c : Circuit) (sound : IsSound c) (level : ℕ → ℕ) (levelled : IsL
       let there = place_there c.drivers p found.inside in (
         evaluated c p there.0 before.0,
         leads_drawn c m Evaluate taken p before.0 (evaluated c p there.0 before.0) before.1 (there.0, there.1, refl),
-        evaluated_more taken before.0 p there.0 there.1 (not_true (is_taken taken p) parts.0) (eqb-true (open_reads c taken p) 0 parts.1) before.2,
+        evaluated_more c taken before.0 p there.0 there.1 (not_true (is_taken taken p) parts.0) (eqb-true (open_reads c taken p) 0 parts.1) before.2,
       )
 
 -- ---- the runs of the blocks
