@@ -8,7 +8,7 @@ both_true : (a b : Bool) → (a && b) ≡ true → (a ≡ true) × (b ≡ true)
 both_true true b is = (refl, is)
 both_true false b is = absurd (grind arith)
 
-below_suc : (k n : ℕ) → k < suc n → (k < n) ⊎ (k ≡ n)
+pub below_suc : (k n : ℕ) → k < suc n → (k < n) ⊎ (k ≡ n)
 below_suc k n lt = by (k == n) refl
   where
     by : (b : Bool) → (k == n) ≡ b → (k < n) ⊎ (k ≡ n)
@@ -154,3 +154,11 @@ place-only t n number k has =
         either : (b : Bool) → (j == k) ≡ b → j ≡ k
         either true e = eqb-true j k e
         either false e = absurd (apart j found (unequal j k (eqb-false j k e)))
+
+-- tests that agree have the same place of a number
+pub place-same : (s t : ℕ → Bool) (n number : ℕ) → ((k : ℕ) → k < n → s k ≡ t k) → place_of s n number ≡ place_of t n number
+place-same s t zero number same = refl
+place-same s t (suc n) number same =
+    ap (λ (x : ℕ). if s n && how_many s n == number then n else x) (place-same s t n number (λ k lt. same k (omega (arith, lt))))
+    ∙ ap (λ (b : Bool). if b && how_many s n == number then n else place_of t n number) (same n (omega arith))
+    ∙ ap (λ (x : ℕ). if t n && x == number then n else place_of t n number) (count-same s t n (λ k lt. same k (omega (arith, lt))))
