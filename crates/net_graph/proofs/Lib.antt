@@ -10,3 +10,4 @@ pub mod ControlLemmas
 pub mod GrowLemmas
 pub mod BoundLemmas
 pub mod CountLemmas
+pub mod NumberLemmas

@@ -7,3 +7,4 @@ pub mod Grow
 pub mod Control
 pub mod Count
 pub mod Names
+pub mod Numbers

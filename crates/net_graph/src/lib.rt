@@ -2,6 +2,7 @@
 #![tactic(auto)]
 
 mod cell;
+mod counting;
 mod laws;
 mod name;
 mod net;

@@ -1,63 +1,39 @@
 // The net while it grows.
 
-ghost use Rattle.std.specs.Prelude.{◌≡◌, ℕ, ◌+◌, ◌-◌, ◌<◌, ◌≤◌, [], ◌∷◌, ◌++◌, length, Some, None, IfOk, IfErr, OnErr, true, false};
+ghost use Rattle.std.specs.Prelude.{◌≡◌, ℕ, ◌+◌, ◌-◌, ◌<◌, ◌≤◌, [], ◌∷◌, ◌++◌, length, Some, None, IfOk, IfErr, IfSome, OnErr, true, false};
 ghost use Rattle.mr_values.specs.Width.{wrap};
 ghost use Rattle.net_graph.specs.Cells.{NetView, cell_at};
 ghost use Rattle.net_graph.specs.Name.{IsRegisterName, IsWireName};
 ghost use Rattle.net_graph.specs.WellFormed.{IsWidth, IsNode, IsFree, IsLeastFree, IsFirstUnbound, IsNetlist};
-ghost use Rattle.net_graph.specs.Names.{numbered_from};
+ghost use Rattle.net_graph.specs.Numbers.{AreCounted};
 ghost use Rattle.net_graph.specs.Grow.{Adds, AddsRegister, IsUnbound, IsBoundTo, IsNamedAs};
 
 use crate::cell::{Cell, Item, Node};
+use crate::counting::{Counted, counted_after, has_name, run_length};
 use crate::name::{Name, NameKind};
 use crate::netlist::{NetFault, Netlist};
 use mr_values::{Memory, wrap};
 use std::alloc::Global;
 use std::marker::Model;
 
-/// A net while it grows: the list of its nodes, and the group of the nodes to come.
+/// A net while it grows: the list of its nodes, and the group of the nodes to come. It keeps how many names there are of the group and
+/// kind that was named last, so that numbering on takes no pass over the list.
 #[derive(Drop)]
 pub struct Net {
     cells: Vec<Cell>,
     group: u32,
+    counted: Option<Counted>,
 }
 
 impl Model for Net {
     ghost use Rattle.net_graph.specs.Cells.{NetView};
-    ghost use Rattle.net_graph.specs.WellFormed.{IsWellFormed};
+    ghost use Rattle.net_graph.specs.Numbers.{IsSound};
 
     ghost Value = { NetView };
 
     ghost view = { λ n. record { cells = n.cells.items; group = n.group } };
 
-    ghost invariant = { λ n. IsWellFormed n.cells.items };
-}
-
-// Whether the cell has this name.
-fn has_name(cell: &Cell, name: Name) -> bool
-    ensures yes { result ≡ true → cell.now.name ≡ Some name }
-    ensures no { result ≡ false → cell.now.name ≡ Some name → ⊥ }
-{
-    cell.name == Some(name)
-}
-
-// How many numbers of that group and kind stand one after another in the list, from 0.
-fn run_length(cells: &[Cell], group: u32, kind: NameKind) -> usize
-    ensures used { (lower : ℕ) → lower < result → IsFree cells.now (record { group = group; kind = kind; number = lower }) → ⊥ }
-    ensures room { result + numbered_from result cells.now ≤ length cells.now }
-{
-    let mut number = 0;
-    for cell in cells {
-        let name = Name {
-            group,
-            kind,
-            number,
-        };
-        if has_name(cell, name) {
-            number += 1;
-        }
-    }
-    number
+    ghost invariant = { λ n. IsSound n.cells.items n.counted };
 }
 
 impl Net {
@@ -68,6 +44,7 @@ impl Net {
         Net {
             cells: Vec::new(alloc),
             group: 0,
+            counted: None,
         }
     }
 
@@ -80,12 +57,14 @@ impl Net {
         ensures err { OnErr result (self.new ≡ self.old) }
     {
         let place = self.cells.len();
+        let counted = counted_after(&self.cells, self.counted, name);
         self.cells.push(Cell {
             group: self.group,
             name,
             width,
             item,
         })?;
+        self.counted = counted;
         Ok(Node { place })
     }
 
@@ -216,6 +195,7 @@ impl Net {
             width: cell.width,
             item: cell.item,
         };
+        self.counted = None;
     }
 
     // Whether no node has this name.
@@ -231,11 +211,25 @@ impl Net {
         true
     }
 
-    /// The least number that no name of that group and kind has. It takes two passes over the list where these names stand in the
-    /// order of their numbers.
+    // How many names of that group and kind there are, where that was kept.
+    fn kept_count(&self, group: u32, kind: NameKind) -> Option<usize>
+        ensures { IfSome result (λ count. AreCounted self.now.cells group kind count) }
+    {
+        match self.counted {
+            Some(counted) if counted.group == group && counted.kind == kind => Some(counted.count),
+            Some(_) => None,
+            None => None,
+        }
+    }
+
+    /// The least number that no name of that group and kind has. It takes no pass over the list where the last name is of them and all
+    /// stand in the order of their numbers, and else a few.
     pub fn free_number(&self, group: u32, kind: NameKind) -> usize
         ensures { IsLeastFree self.now.cells group kind result }
     {
+        if let Some(count) = self.kept_count(group, kind) {
+            return count;
+        }
         let first = run_length(&self.cells, group, kind);
         for number in first..self.cells.len() {
             if self.is_free(Name {
@@ -293,7 +287,11 @@ impl Net {
         ensures netlist { IfOk result IsNetlist }
         ensures err { IfErr result (IsFirstUnbound self.cells) }
     {
-        let Net { cells, group: _ } = self;
+        let Net {
+            cells,
+            group: _,
+            counted: _,
+        } = self;
         Netlist::from_cells(cells)
     }
 }

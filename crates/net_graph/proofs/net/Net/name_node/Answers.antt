@@ -13,5 +13,9 @@ invariant_of-self c =
     let nameless : (cell_at c.self.inside.cells.items c.args.node.place).name ≡ None = subst (λ (n : NetView). (cell_at n.cells c.args.node.place).name ≡ None) (sym c.self.view_is) c.requires.nameless in
     let free : IsFree c.self.inside.cells.items c.args.name = subst (λ (n : NetView). IsFree n.cells c.args.name) (sym c.self.view_is) c.requires.free in
     let is = cell_read c.self.inside.cells.items c.args.node.place c.index-cell.result.now inside c.index-cell.ensures in
-    subst (λ (cell : Cell). IsWellFormed (set c.self.inside.cells.items c.args.node.place (named_as cell c.args.name))) is
-    (IsWellFormed-named c.self.inside.cells.items c.args.node.place c.args.name c.self.invariant inside nameless c.requires.named free)
+    record {
+      well_formed =
+          subst (λ (cell : Cell). IsWellFormed (set c.self.inside.cells.items c.args.node.place (named_as cell c.args.name))) is
+          (IsWellFormed-named c.self.inside.cells.items c.args.node.place c.args.name c.self.invariant.well_formed inside nameless c.requires.named free);
+      numbers = tt;
+    }

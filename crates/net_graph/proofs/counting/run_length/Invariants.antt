@@ -1,7 +1,7 @@
 use Rattle.std.proofs.Common.{ℕ, ◌+◌, ◌<◌, ◌≤◌, length}
 use Rattle.net_graph.specs.WellFormed.{IsFree}
 use Rattle.net_graph.specs.Names.{numbered_from}
-use Rattle.net_graph.proofs.net.run_length.Given as goal
+use Rattle.net_graph.proofs.counting.run_length.Given as goal
 
 -- the lower numbers are used, and the others leave room
 abbrev pub invariant-loop-cell : goal.invariant-loop-cell

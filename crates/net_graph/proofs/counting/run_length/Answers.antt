@@ -4,8 +4,8 @@ use Rattle.std.proofs.lemmas.Option.{slice_get-get_or}
 use Rattle.net_graph.specs.WellFormed.{IsFree}
 use Rattle.net_graph.specs.Names.{numbered_from}
 use Rattle.net_graph.proofs.FreeLemmas.{numbered_from-most, IsUsed-room}
-use Rattle.net_graph.proofs.net.run_length.Goals as goal
-use Rattle.net_graph.proofs.net.run_length.Goals.{then-has_name, else-has_name}
+use Rattle.net_graph.proofs.counting.run_length.Goals as goal
+use Rattle.net_graph.proofs.counting.run_length.Goals.{then-has_name, else-has_name}
 
 pub loop-cell-init : goal.loop-cell-init
 loop-cell-init c = (λ lower less. absurd (omega arith), omega (arith, numbered_from-most 0 c.args.cells.now))
