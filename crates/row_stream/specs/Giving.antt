@@ -16,6 +16,10 @@ GivesSome gives = (bytes : List ℕ) → (text : List ℕ) × (last : Option Lin
 pub record GoesOn (old new : Giving) (piece left more : List ℕ) : Type 0 where
   pub gives : (rest text : List ℕ) (last : Option LineFault) → new (left ++ rest) text last → old (piece ++ rest) (more ++ text) last
 
+-- at the end of the file the old point gives the output, and then what the new point gives
+pub record EndsOn (old new : Giving) (more : List ℕ) : Type 0 where
+  pub gives : (text : List ℕ) (last : Option LineFault) → new [] text last → old [] (more ++ text) last
+
 -- bytes were taken, or a line of them is refused: the output grows by what is given up to there, and by something at want of memory
 abbrev pub Takes : Giving → Giving → List ℕ → List ℕ → Result ℕ StreamFault → List ℕ → Type 0
 Takes old new piece before (Ok taken) after = (more : List ℕ) × (after ≡ before ++ more) × GoesOn old new piece (drop taken piece) more
@@ -25,6 +29,6 @@ Takes old new piece before (Err Memory) after = (more : List ℕ) × (after ≡ 
 -- the file is at its end, and all was given or not all, or its last line is refused
 abbrev pub Closes : Giving → Giving → List ℕ → Result Bool StreamFault → List ℕ → Type 0
 Closes old new before (Ok true) after = (more : List ℕ) × (after ≡ before ++ more) × old [] more None
-Closes old new before (Ok false) after = (more : List ℕ) × (after ≡ before ++ more) × GoesOn old new [] [] more
+Closes old new before (Ok false) after = (more : List ℕ) × (after ≡ before ++ more) × EndsOn old new more
 Closes old new before (Err (Line fault)) after = (more : List ℕ) × (after ≡ before ++ more) × old [] more (Some fault)
 Closes old new before (Err Memory) after = (more : List ℕ) × (after ≡ before ++ more)

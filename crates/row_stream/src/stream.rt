@@ -1,6 +1,6 @@
 // A computation over the rows of a file.
 
-ghost use Rattle.std.specs.Prelude.{◌≡◌, ℕ, ◌+◌, ◌<◌, ◌≤◌, ◌^◌, false, length, IfOk};
+ghost use Rattle.std.specs.Prelude.{◌≡◌, ℕ, ◌+◌, ◌*◌, ◌<◌, ◌≤◌, ◌^◌, false, length, IfOk};
 ghost use Rattle.row_stream.specs.Giving.{Giving, GivesSome, Takes, Closes};
 
 use crate::fault::StreamFault;
@@ -18,6 +18,9 @@ pub trait RowStream {
     /// The most bytes that may stand before here.
     ghost most: { Self → ℕ };
 
+    /// How much is due of what the bytes before here give.
+    ghost due: { Self → ℕ };
+
     /// How much may be left to give at the end of the file.
     ghost left: { Self → ℕ };
 
@@ -25,8 +28,9 @@ pub trait RowStream {
     fn gives_some(&self)
         ensures { GivesSome (gives self.now) };
 
-    /// Takes bytes, and appends what is given for their rows. It may leave some of them where the output is full. It fails at the first
-    /// refused line, where the output holds what is given for the rows before it, and for want of memory.
+    /// Takes bytes, and appends what is given for their rows. It may leave some of them where the output is full, and all of them where
+    /// less is due afterwards. It fails at the first refused line, where the output holds what is given for the rows before it, and for
+    /// want of memory.
     fn advance(
         &mut self,
         alloc: Global,
@@ -36,8 +40,10 @@ pub trait RowStream {
         requires room { length out.old.items ≤ 65000 }
         ensures ends { Takes (gives self.old) (gives self.new) piece.now out.old.items result out.new.items }
         ensures within { IfOk result (λ taken. taken ≤ length piece.now) }
-        ensures some { 0 < length piece.now → IfOk result (λ taken. 0 < taken) }
         ensures short { length out.new.items ≤ 65536 }
+
+        // A byte that is taken counts for more than all that it makes due, so calls on a piece come to its end.
+        ensures some { 0 < length piece.now → IfOk result (λ taken. due self.new < due self.old + taken * 2 ^ 17) }
 
         // So the bytes of a file that isn't refused are bounded.
         ensures bytes { IfOk result (λ taken. most self.old + taken ≤ most self.new) }

@@ -1,5 +1,5 @@
 -- The rows of a file, byte by byte.
-use Rattle.std.proofs.Common.{◌≡◌, ◌==◌, ◌∙◌, ℕ, suc, ◌+◌, ◌*◌, ◌-◌, ◌<◌, ◌≤◌, ◌^◌, Bool, true, false, not, cond, List, [], ◌∷◌, ◌++◌, length, take, get_or, None, Ok, Err, Result, Option, OnOk, refl, sym, ap, subst, append_assoc, append-nil, length-append, length-take, arith, nat_lt, nat_le}
+use Rattle.std.proofs.Common.{◌≡◌, ◌==◌, ◌∙◌, ℕ, suc, ◌+◌, ◌*◌, ◌-◌, ◌<◌, ◌≤◌, ◌^◌, Bool, true, false, not, cond, List, [], ◌∷◌, ◌++◌, length, take, get_or, None, Ok, Err, Result, Option, OnOk, refl, sym, ap, subst, append_assoc, length-append, length-take, arith, nat_lt, nat_le}
 use Rattle.std.specs.List.{list_all, onto_first}
 use Rattle.std.proofs.lemmas.Bool.{false≢true, and_parts, lt-ltb, lt-leb}
 use Rattle.sample_file.specs.declared.fault.LineFault.{LineFault}
@@ -7,7 +7,7 @@ use Rattle.sample_file.specs.declared.fault.LineFault.TheVariants.{LongLine}
 use Rattle.sample_file.specs.declared.row.Row.{Row}
 use Rattle.sample_file.specs.Lines.{lines_of, line_before, content_of}
 use Rattle.sample_file.specs.Kept.{IsOneLine}
-use Rattle.sample_file.specs.Reading.{Place, rows_of, rows_from, row_then, no_rows, refused, most_before, line_row, unless}
+use Rattle.sample_file.specs.Reading.{Place, rows_of, rows_from, row_then, refused, most_before, line_row, unless}
 
 -- ---- lines
 
@@ -120,16 +120,6 @@ rows-full old fields ended (b ∷ bs) fault byte rest is none other one long few
     let next : ended + 1 ≡ suc ended = omega arith in
     here old fields ended (b ∷ bs) fault (byte ∷ rest) is none ∙ rows-long fields (suc ended) b bs byte rest (omega arith) (one-more (b ∷ bs) byte one other) long
     ∙ ap (λ (n : ℕ). refused (LongLine n)) (sym next)
-
--- the last line
-pub rows-last : (old : Place) (fields ended : ℕ) (begun line : List ℕ) (fault : Option LineFault) (answer : Result (Option Row) LineFault) → record { fields = fields; ended = ended; begun = begun; fault = fault } ≡ old → old.fault ≡ None
-    → IsOneLine begun → 0 < length begun → line ≡ begun → answer ≡ line_row fields (ended + 1) line → rows_from old [] ≡ row_then answer no_rows
-rows-last old fields ended [] line fault answer is none one some same answered = absurd (omega arith)
-rows-last old fields ended (b ∷ bs) line fault answer is none one some same answered =
-    let next : ended + 1 ≡ suc ended = omega arith in
-    let row : answer ≡ line_row fields (suc ended) (b ∷ bs) = answered ∙ ap (λ (n : ℕ). line_row fields n line) next ∙ ap (line_row fields (suc ended)) same in
-    here old fields ended (b ∷ bs) fault [] is none ∙ ap (λ (bytes : List ℕ). rows_of fields (suc ended) (lines_of bytes)) (append-nil (b ∷ bs)) ∙ ap (rows_of fields (suc ended)) (lines_of-last b bs one)
-    ∙ ap (λ (a : Result (Option Row) LineFault). row_then a no_rows) (sym row)
 
 -- ---- bytes
 

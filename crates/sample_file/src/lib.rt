@@ -13,7 +13,7 @@ mod row;
 pub use fault::LineFault;
 pub use lines::{Lines, Step};
 pub use print::put_row;
-pub use ranges::{Stimulus, sample_of, stimulus_of};
+pub use ranges::{Stimulus, pattern, sample_of, stimulus_of};
 pub use row::Row;
 
 #[cfg(test)]

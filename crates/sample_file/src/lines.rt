@@ -69,6 +69,7 @@ impl Lines {
         ensures few { self.new.ended < 2 ^ 32 }
         ensures bytes { OnOk result (most_before self.old + 1 ≤ most_before self.new) }
         ensures bound { length self.new.begun ≤ 4097 }
+        ensures empty { OnOk result (byte ≡ 10 → self.new.begun ≡ []) }
     {
         if self.ended + 1 >= LINES {
             return Err(LineFault::TooManyLines);
@@ -102,6 +103,7 @@ impl Lines {
         ensures few { self.new.ended < 2 ^ 32 }
         ensures bytes { OnOk result (most_before self.old + 1 ≤ most_before self.new) }
         ensures bound { length self.new.begun ≤ 4097 }
+        ensures empty { OnOk result (byte ≡ 10 → self.new.begun ≡ []) }
     {
         let answer = self.add(byte);
         if let Err(fault) = answer {
@@ -149,15 +151,29 @@ impl Lines {
         })
     }
 
-    /// The row of a last line without an end, and none where there is none. It fails where that line is refused, and with the fault
-    /// of the first line that was.
-    pub fn finish(self) -> Result<Option<Row>, LineFault>
-        ensures { rows_from self [] ≡ row_then result no_rows }
+    /// Ends a last line that has no end, and tells its row, or none where there is none. It fails where that line is refused, and with
+    /// the fault of the first line that was.
+    pub fn close(&mut self) -> Result<Option<Row>, LineFault>
+        ensures rows { rows_from self.old [] ≡ row_then result no_rows }
+        ensures closed { OnOk result (rows_from self.new [] ≡ no_rows) }
+        ensures begun { OnOk result (self.new.begun ≡ []) }
+        ensures some { IfOk result (λ found. OnSome found (0 < length self.old.begun)) }
+        ensures ended { IfOk result (λ found. self.old.ended + length (option_to_list found) ≤ self.new.ended) }
+        ensures more { self.old.ended ≤ self.new.ended }
+        ensures few { self.new.ended < 2 ^ 32 }
     {
         match self.fault {
             Some(fault) => Err(fault),
             None if self.held == 0 => Ok(None),
-            None => line_row(self.fields, self.ended + 1, &self.room[..self.held]),
+            None => self.put(b'\n'),
         }
+    }
+
+    /// The row of a last line without an end, and none where there is none. It fails where that line is refused, and with the fault
+    /// of the first line that was.
+    pub fn finish(mut self) -> Result<Option<Row>, LineFault>
+        ensures { rows_from self [] ≡ row_then result no_rows }
+    {
+        self.close()
     }
 }

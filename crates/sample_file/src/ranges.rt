@@ -40,8 +40,8 @@ fn is_unsigned(width: u8, number: i128) -> bool
     number >= 0 && number.unsigned_abs() < span(width)
 }
 
-// A number modulo `2^width`, which is greater than its magnitude.
-fn pattern(width: u8, number: i128) -> u128
+/// A number modulo `2^width`, which is greater than its magnitude: the pattern of that many bits, at most 127.
+pub fn pattern(width: u8, number: i128) -> u128
     requires most { width ≤ 127 }
     requires small { unsigned_abs number < 2 ^ width }
     ensures value { result ≡ pattern width number }
