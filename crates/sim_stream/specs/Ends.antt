@@ -1,5 +1,5 @@
--- How the calls of a simulation end.
-use Rattle.std.specs.Prelude.{◌≡◌, ℕ, ◌+◌, List, [], ◌++◌, drop, Option, Some, None, Result, Ok, Err}
+-- How a cycle of a simulation ends.
+use Rattle.std.specs.Prelude.{◌≡◌, ℕ, ◌+◌, List, ◌++◌, Option, Result, Ok, Err}
 use Rattle.verilog_tree.specs.Tree.{Design}
 use Rattle.verilog_tree.specs.Meaning.{Values}
 use Rattle.verilog_tree.specs.Names.{shapes_of}
@@ -11,7 +11,6 @@ use Rattle.sample_file.specs.Ranges.{Checked, item_then, stimulus_of}
 use Rattle.row_stream.specs.declared.fault.StreamFault.{StreamFault}
 use Rattle.row_stream.specs.declared.fault.StreamFault.TheVariants.{Line, Memory}
 use Rattle.sim_stream.specs.Given.{Gives}
-use Rattle.sim_stream.specs.Stream.{Midst, GivesFrom, Continues}
 
 -- the row as a cycle of the module
 abbrev pub cycle_in : Design → Row → Result Stimulus LineFault
@@ -26,15 +25,3 @@ abbrev pub CycleEnds : Design → Values → ℕ → ℕ → Row → List ℕ �
 CycleEnds d old cycle tick row before (Ok ticks) new after = (line : List ℕ) × (after ≡ before ++ line) × RunsCycle d old cycle tick row new ticks line
 CycleEnds d old cycle tick row before (Err (Line fault)) new after = (after ≡ before) × (cycle_in d row ≡ Err fault)
 CycleEnds d old cycle tick row before (Err Memory) new after = after ≡ before
-
--- bytes were taken, or a line is refused: the output gets what is shown up to there, and a part of it at want of memory
-abbrev pub Advances : Midst → List ℕ → List ℕ → Result ℕ StreamFault → Midst → List ℕ → Type 0
-Advances old piece before (Ok taken) new after = (more : List ℕ) × (after ≡ before ++ more) × Continues old piece new (drop taken piece) more
-Advances old piece before (Err (Line fault)) new after = (more : List ℕ) × (after ≡ before ++ more) × ((rest : List ℕ) → GivesFrom old (piece ++ rest) more (Some fault))
-Advances old piece before (Err Memory) new after = (more : List ℕ) × (after ≡ before ++ more)
-
--- the stimulus is at its end
-abbrev pub Finishes : Midst → List ℕ → Result (Unit {0}) StreamFault → List ℕ → Type 0
-Finishes m before (Ok done) after = (more : List ℕ) × (after ≡ before ++ more) × GivesFrom m [] more None
-Finishes m before (Err (Line fault)) after = (after ≡ before) × GivesFrom m [] [] (Some fault)
-Finishes m before (Err Memory) after = after ≡ before

@@ -1,6 +1,7 @@
 -- A simulation in the midst of a stimulus.
-use Rattle.std.specs.Prelude.{◌≡◌, ℕ, ◌<◌, ◌≤◌, ◌^◌, List, ◌++◌, Option}
+use Rattle.std.specs.Prelude.{◌≡◌, ℕ, ◌<◌, ◌≤◌, ◌^◌, List, Option}
 use Rattle.verilog_tree.specs.declared.tree.Module.{Module}
+use Rattle.verilog_tree.specs.Checks.{Passes}
 use Rattle.verilog_tree.specs.View.{design_view}
 use Rattle.sample_file.specs.declared.fault.LineFault.{LineFault}
 use Rattle.sample_file.specs.Reading.{Place, start, rows_from}
@@ -27,12 +28,9 @@ pub record IsStart (m : Midst) (simulated : Module) : Type 0 where
   pub cycle : m.cycle ≡ 0
   pub tick : m.tick ≡ 0
 
--- whatever follows, the first simulation gives this text, and then what the second gives; of the bytes some are left
-pub record Continues (old : Midst) (bytes : List ℕ) (new : Midst) (left more : List ℕ) : Type 0 where
-  pub gives : (rest text : List ℕ) (last : Option LineFault) → GivesFrom new (left ++ rest) text last → GivesFrom old (bytes ++ rest) (more ++ text) last
-
--- there are no more ticks than cycles, and no more cycles than lines that have ended
-pub record IsCounted (place : Place) (cycle tick : ℕ) : Type 0 where
+-- the module passes the checks, and there are no more ticks than cycles, and no more cycles than lines that have ended
+pub record IsMidway (design : Module) (place : Place) (cycle tick : ℕ) : Type 0 where
+  pub passes : Passes (design_view design)
   pub ticks : tick ≤ cycle
   pub cycles : cycle ≤ place.ended
   pub few : place.ended < 2 ^ 32

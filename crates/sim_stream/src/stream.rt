@@ -3,20 +3,19 @@ ghost use Rattle.std.specs.Prelude.{◌≡◌, ◌≤◌, ◌<◌, ◌+◌, ◌^
 ghost use Rattle.verilog_tree.specs.View.{design_view};
 ghost use Rattle.clock_sim.specs.Sim.{IsSound, register_count};
 ghost use Rattle.sample_file.specs.Reading.{most_before};
-ghost use Rattle.sim_stream.specs.Stream.{IsStart};
-ghost use Rattle.sim_stream.specs.Ends.{Advances, Finishes};
+ghost use Rattle.row_stream.specs.Giving.{Takes};
+ghost use Rattle.sim_stream.specs.Stream.{IsStart, GivesFrom};
 
 use crate::cycle::run_cycle;
+use crate::laws::law_of_one_text;
 use clock_sim::Sim;
 use mr_values::Memory;
-use row_stream::StreamFault;
+use row_stream::{FULL, RowStream, StreamFault};
 use sample_file::Lines;
 use std::alloc::Global;
 use std::marker::Model;
+use std::mem::replace;
 use verilog_tree::{Kind, Module};
-
-/// The output of a call is full where it is longer than this: one more line has at most 124 bytes, and 65,536 are the limit.
-const FULL: usize = 65_412;
 
 // How many registers a module has.
 fn register_count(design: &Module) -> usize
@@ -43,7 +42,7 @@ pub struct SimStream<'a> {
 impl<'a> Model for SimStream<'a> {
     ghost use Rattle.std.specs.Coded.{codes};
     ghost use Rattle.verilog_tree.specs.contracts.tree.Module as module_type;
-    ghost use Rattle.sim_stream.specs.Stream.{Midst, IsCounted};
+    ghost use Rattle.sim_stream.specs.Stream.{Midst, IsMidway};
 
     ghost Value = { Midst };
 
@@ -51,13 +50,13 @@ impl<'a> Model for SimStream<'a> {
 
     ghost view = { λ s. record { design = s.sim.design; values = s.sim.values; place = s.lines; cycle = s.cycle; tick = s.tick } };
 
-    ghost invariant = { λ s. IsCounted s.lines s.cycle s.tick };
+    ghost invariant = { λ s. IsMidway s.sim.design s.lines s.cycle s.tick };
 }
 
 impl<'a> SimStream<'a> {
     // Takes bytes up to the end of the first row, and runs its cycle.
     fn turn(&mut self, alloc: Global, piece: &[u8], out: &mut Vec<u8>) -> Result<usize, StreamFault>
-        ensures ends { Advances self.old piece.now out.old.items result self.new out.new.items }
+        ensures ends { Takes (GivesFrom self.old) (GivesFrom self.new) piece.now out.old.items result out.new.items }
         ensures within { IfOk result (λ taken. taken ≤ length piece.now) }
         ensures some { 0 < length piece.now → IfOk result (λ taken. 0 < taken) }
         ensures bytes { IfOk result (λ taken. most_before self.old.place + taken ≤ most_before self.new.place) }
@@ -88,26 +87,26 @@ impl<'a> SimStream<'a> {
             tick: 0,
         })
     }
+}
 
-    /// Takes bytes of the stimulus, and appends what the module shows in their cycles. It takes all of them, but for those behind the
-    /// line with which the output gets longer than 65,412 bytes. It fails at the first refused line, where the output holds what the
-    /// cycles before it show, and for want of memory.
-    pub fn advance(
+impl RowStream for SimStream<'_> {
+    ghost gives = { GivesFrom };
+
+    ghost most = { λ s. most_before s.place };
+
+    ghost left = { λ s. 0 };
+
+    fn gives_some(&self) {
+        law_of_one_text();
+        let _known = self.cycle;
+    }
+
+    fn advance(
         &mut self,
         alloc: Global,
         piece: &[u8],
         out: &mut Vec<u8>,
-    ) -> Result<usize, StreamFault>
-        ensures ends { Advances self.old piece.now out.old.items result self.new out.new.items }
-        ensures within { IfOk result (λ taken. taken ≤ length piece.now) }
-        ensures all { IfOk result (λ taken. (taken ≡ length piece.now) ⊎ (65412 < length out.new.items)) }
-        ensures some { 0 < length piece.now → length out.old.items ≤ 65412 → IfOk result (λ taken. 0 < taken) }
-        ensures short { length out.old.items ≤ 65536 → length out.new.items ≤ 65536 }
-
-        // So the bytes of a stimulus that isn't refused are bounded.
-        ensures bytes { IfOk result (λ taken. most_before self.old.place + taken ≤ most_before self.new.place) }
-        ensures bound { IfOk result (λ taken. 0 < taken → most_before self.new.place ≤ 2 ^ 45) }
-    {
+    ) -> Result<usize, StreamFault> {
         let mut taken = 0;
         'rows: while taken < piece.len() && out.len() <= FULL {
             let (_, left) = piece.split_at(taken);
@@ -116,23 +115,16 @@ impl<'a> SimStream<'a> {
         Ok(taken)
     }
 
-    /// Appends what the module shows in the cycle of a last line without an end. It fails where that line is refused, and with the
-    /// fault of the first line that was.
-    pub fn finish(self, alloc: Global, out: &mut Vec<u8>) -> Result<(), StreamFault>
-        ensures ends { Finishes self.entry out.old.items result out.new.items }
-        ensures short { length out.new.items ≤ length out.old.items + 124 }
-    {
-        let SimStream {
-            lines,
-            mut sim,
-            cycle,
-            tick,
-        } = self;
+    fn finish(&mut self, alloc: Global, out: &mut Vec<u8>) -> Result<bool, StreamFault> {
+        let lines = replace(&mut self.lines, Lines::new(alloc, 3)?);
+        let (cycle, tick) = (self.cycle, self.tick);
+        self.cycle = 0;
+        self.tick = 0;
         match lines.finish()? {
-            None => Ok(()),
+            None => Ok(true),
             Some(row) => {
-                run_cycle(alloc, &mut sim, &row, cycle, tick, out)?;
-                Ok(())
+                run_cycle(alloc, &mut self.sim, &row, cycle, tick, out)?;
+                Ok(true)
             }
         }
     }

@@ -1,6 +1,7 @@
 // Texts are read, checked and simulated, all by the definitions' own program: what is shown is what was worked by hand.
 
 use module_reader::read_text;
+use row_stream::RowStream;
 use sim_stream::SimStream;
 use std::alloc::Global;
 use std::test::Fail;
@@ -67,7 +68,7 @@ fn shows(alloc: Global, text: &[u8], stimulus: &[u8], lines: &[u8]) -> bool {
     };
     let mut out = Vec::new(alloc);
     let taken = stream.advance(alloc, stimulus, &mut out);
-    taken.is_ok() && stream.finish(alloc, &mut out).is_ok() && out.as_slice() == lines
+    taken.is_ok() && stream.finish(alloc, &mut out) == Ok(true) && out.as_slice() == lines
 }
 
 #[test]

@@ -1,11 +1,12 @@
 use Rattle.std.proofs.Common.{◌≡◌, ◌≤◌, ◌<◌, ◌+◌, ◌^◌, ◌-◌, Ok, length}
 use Rattle.sample_file.specs.Reading.{most_before}
-use Rattle.sim_stream.specs.Ends.{Advances}
-use Rattle.sim_stream.proofs.stream.SimStream.advance.Given as goal
+use Rattle.row_stream.specs.Giving.{Takes}
+use Rattle.sim_stream.specs.Stream.{GivesFrom}
+use Rattle.sim_stream.proofs.stream.SimStreamRowStream.advance.Given as goal
 
 abbrev pub invariant-rows : goal.invariant-rows
 invariant-rows l = record {
-  ends : Advances l.initial.self l.piece l.initial.out.items (Ok l.taken) l.self l.out.items;
+  ends : Takes (GivesFrom l.initial.self) (GivesFrom l.self) l.piece l.initial.out.items (Ok l.taken) l.out.items;
   bytes : most_before l.initial.self.place + l.taken ≤ most_before l.self.place;
   bound : 0 < l.taken → most_before l.self.place ≤ 2 ^ 45;
   within : l.taken ≤ length l.piece;
