@@ -5,6 +5,7 @@ mod cycle;
 mod laws;
 mod stream;
 
+pub use cycle::{is_tick, signed_value, ticks_after};
 pub use laws::law_of_one_text;
 pub use row_stream::StreamFault;
-pub use stream::SimStream;
+pub use stream::{SimStream, register_count};

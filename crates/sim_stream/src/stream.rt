@@ -17,8 +17,8 @@ use std::marker::Model;
 use std::mem::replace;
 use verilog_tree::{Kind, Module};
 
-// How many registers a module has.
-fn register_count(design: &Module) -> usize
+/// How many registers a module has.
+pub fn register_count(design: &Module) -> usize
     ensures { result ≡ register_count design.now.signals.items }
 {
     let mut count = 0;
@@ -93,6 +93,8 @@ impl RowStream for SimStream<'_> {
     ghost gives = { GivesFrom };
 
     ghost most = { λ s. most_before s.place };
+
+    ghost due = { λ s. 0 };
 
     ghost left = { λ s. 0 };
 
