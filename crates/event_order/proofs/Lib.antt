@@ -4,5 +4,6 @@ pub mod Declared
 pub mod DrawnPlaces
 pub mod DrawnSteps
 pub mod EveryOrder
+pub mod FirstDraw
 pub mod Inputs
 pub mod Moments
