@@ -14,7 +14,7 @@ use row_stream::StreamFault;
 use sample_file::{Row, Stimulus, put_row, stimulus_of};
 use std::alloc::Global;
 
-/// A pattern by the sign of its port.
+/// A pattern as a number by the sign of its port.
 pub fn signed_value(shape: PortShape, bits: u128) -> i128
     requires width { IsDataWidth shape.width }
     requires small { bits < 2 ^ shape.width }

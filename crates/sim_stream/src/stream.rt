@@ -1,13 +1,14 @@
 // A simulation of a stimulus that comes in pieces.
 ghost use Rattle.std.specs.Prelude.{◌≡◌, ◌≤◌, ◌<◌, ◌+◌, ◌^◌, ◌⊎◌, ◌++◌, length, IfOk, OnOk};
 ghost use Rattle.verilog_tree.specs.View.{design_view};
-ghost use Rattle.clock_sim.specs.Sim.{IsSound, register_count};
+ghost use Rattle.clock_sim.specs.Sim.{IsSound};
 ghost use Rattle.sample_file.specs.Reading.{most_before};
 ghost use Rattle.row_stream.specs.Giving.{Takes};
 ghost use Rattle.sim_stream.specs.Stream.{IsStart, GivesFrom};
 
 use crate::cycle::run_cycle;
 use crate::laws::law_of_one_text;
+use crate::start::zero_sim;
 use clock_sim::Sim;
 use mr_values::Memory;
 use row_stream::{FULL, RowStream, StreamFault};
@@ -15,20 +16,7 @@ use sample_file::Lines;
 use std::alloc::Global;
 use std::marker::Model;
 use std::mem::replace;
-use verilog_tree::{Kind, Module};
-
-/// How many registers a module has.
-pub fn register_count(design: &Module) -> usize
-    ensures { result ≡ register_count design.now.signals.items }
-{
-    let mut count = 0;
-    for signal in design.signals.as_slice() {
-        if signal.kind == Kind::Reg {
-            count += 1;
-        }
-    }
-    count
-}
+use verilog_tree::Module;
 
 /// A simulation of a module, in the midst of its stimulus.
 #[derive(Drop)]
@@ -79,10 +67,9 @@ impl<'a> SimStream<'a> {
         requires { IsSound (design_view design.now) }
         ensures { IfOk result (λ stream. IsStart stream design.now) }
     {
-        let initial = Vec::from_elem(alloc, 0u128, register_count(design))?;
         Ok(SimStream {
             lines: Lines::new(alloc, 3)?,
-            sim: Sim::start(alloc, design, &initial)?,
+            sim: zero_sim(alloc, design)?,
             cycle: 0,
             tick: 0,
         })

@@ -1,6 +1,6 @@
 use Rattle.std.proofs.Common.{◌≡◌, ◌≤◌, ◌+◌, drop}
 use Rattle.clock_sim.specs.Sim.{register_count}
-use Rattle.sim_stream.proofs.stream.register_count.Given as goal
+use Rattle.sim_stream.proofs.start.register_count.Given as goal
 
 abbrev pub invariant-loop-signal : goal.invariant-loop-signal
 invariant-loop-signal l = record {
