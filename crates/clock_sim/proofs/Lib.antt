@@ -1,8 +1,9 @@
 pub mod Formed
+pub mod Marks
 pub mod PortPlaces
+pub mod PortWidths
 pub mod Settled
 pub mod Simulated
 pub mod Staged
 pub mod Start
 pub mod Tables
-pub mod PortWidths

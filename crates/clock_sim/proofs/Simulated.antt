@@ -1,5 +1,5 @@
 -- The evaluation of all assignments in an order gives the settling.
-use Rattle.std.proofs.Common.{◌≡◌, ℕ, ◌+◌, ◌<◌, ◌≤◌, ◌^◌, Bool, true, false, List, Some, length, get_or, set, slice_get, refl, sym, ap, ◌∙◌, arith, subst}
+use Rattle.std.proofs.Common.{◌≡◌, ℕ, zero, suc, ◌+◌, ◌<◌, ◌≤◌, ◌^◌, Bool, true, false, List, [], ◌∷◌, Some, length, get_or, set, slice_get, refl, sym, ap, ◌∙◌, arith, subst}
 use Rattle.std.specs.Prelude.{◌==◌, if◌then◌else◌}
 use Rattle.std.proofs.Math.Path.{fun_ext}
 use Rattle.std.proofs.lemmas.Bool.{eqb-true, eqb-false, eq-eqb, ne_eqb}
@@ -87,27 +87,42 @@ module _ (c : Circuit) (sound : IsSound c) (content : Values) (order : List ℕ)
     settled = λ k d at. let found = is_order.covers k d at in all.settled found.0 k d (omega (arith, le, slice_get_within order found.0 k found.1)) found.1 at;
   }
 
--- the assignment that an order names
-pub named_assign : (d : Design) (order : List ℕ) → IsEvaluationOrder (circuit_of d) order → (place : ℕ) → place < length order → get_or order place 0 < length d.assigns
-named_assign d order is_order place lt = subst (λ (n : ℕ). get_or order place 0 < n) (length-map d.assigns (driver_of (shapes_of d))) (is_order.within place 0 lt)
+there : {A : Type 0} (xs : List A) (k : ℕ) → k < length xs → (x : A) × (slice_get xs k ≡ Some x)
+there [] k lt = absurd (omega (arith, lt))
+there (x ∷ xs) zero lt = (x, refl)
+there (x ∷ xs) (suc k) lt = there xs k (omega (arith, lt))
 
--- the assignment that a loop reads at a place of the order
-pub ordered_assign : (m : Module) (order : List ℕ) → IsEvaluationOrder (circuit_of (design_view m)) order → (place : ℕ) (a : Assign) → place < length order
-    → a ≡ get_or m.assigns.items (get_or order place 0) a → slice_get (design_view m).assigns (get_or order place 0) ≡ Some (assignment_view a)
-ordered_assign m order is_order place a lt read =
-    viewed_at m.assigns.items (get_or order place 0) a
-    (subst (λ (n : ℕ). get_or order place 0 < n) (length-map m.assigns.items assignment_view) (named_assign (design_view m) order is_order place lt)) read
+-- the assignment that an order names
+pub named_assign : (m : Module) (order : List ℕ) → IsEvaluationOrder (circuit_of (design_view m)) order → (place : ℕ) → place < length order → get_or order place 0 < length m.assigns.items
+named_assign m order is_order place lt =
+    let d = design_view m in
+    let drivers = length-map d.assigns (driver_of (shapes_of d)) in
+    let assigns = length-map m.assigns.items assignment_view in
+    let inside = is_order.within place 0 lt in
+    omega (arith, drivers, assigns, inside)
+
+-- the values after an evaluation of one assignment
+pub record IsEvaluated (d : Design) (place : ℕ) (values after : List ℕ) : Type 0 where
+  pub value : (e : Driver) → slice_get (circuit_of d).drivers place ≡ Some e → values_of after ≡ put (values_of values) e.target (e.value (values_of values))
+
+pub one_evaluated : (d : Design) (k : ℕ) (a : Assignment) (values : List ℕ) (bits : ℕ) → slice_get d.assigns k ≡ Some a → a.target < length values
+    → bits ≡ assigned (shapes_of d) (values_of values) a.target a.value → IsEvaluated d k values (set values a.target bits)
+one_evaluated d k a values bits at target is = record {
+  value = λ e found.
+      let same : driver_of (shapes_of d) a ≡ e = same_some (driver_of (shapes_of d) a) e (sym (driver_at d k a at) ∙ found) in
+      values_set values a.target bits target ∙ ap (put (values_of values) a.target) is ∙ ap (λ (x : Driver). put (values_of values) x.target (x.value (values_of values))) same;
+}
 
 -- one turn of the loop that settles
 pub settle_turn : (d : Design) → IsSound (circuit_of d) → (content : Values) (order : List ℕ) → IsEvaluationOrder (circuit_of d) order
-    → (place : ℕ) (values : List ℕ) (a : Assignment) (bits : ℕ) → place < length order → slice_get d.assigns (get_or order place 0) ≡ Some a → a.target < length values
-    → bits ≡ assigned (shapes_of d) (values_of values) a.target a.value → IsSettledTo (circuit_of d) content order place (values_of values)
-    → IsSettledTo (circuit_of d) content order (place + 1) (values_of (set values a.target bits))
-settle_turn d sound content order is_order place values a bits lt at target is so_far =
+    → (place : ℕ) (values after : List ℕ) → place < length order → IsEvaluated d (get_or order place 0) values after → IsSettledTo (circuit_of d) content order place (values_of values)
+    → IsSettledTo (circuit_of d) content order (place + 1) (values_of after)
+settle_turn d sound content order is_order place values after lt one so_far =
     let c = circuit_of d in
     let k = get_or order place 0 in
-    let more = settled_more c sound content order is_order place k (driver_of (shapes_of d) a) (values_of values) (slice_get-get_or order place 0 lt) (driver_at d k a at) so_far in
-    subst (IsSettledTo c content order (place + 1)) (ap (put (values_of values) a.target) (sym is) ∙ sym (values_set values a.target bits target)) more
+    let driver = there c.drivers k (is_order.within place 0 lt) in
+    let more = settled_more c sound content order is_order place k driver.0 (values_of values) (slice_get-get_or order place 0 lt) driver.1 so_far in
+    subst (IsSettledTo c content order (place + 1)) (sym (one.value driver.0 driver.1)) more
 
 pub names_turn : (shapes : Shapes) (values : List ℕ) (target bits : ℕ) → target < length values → FitNames shapes (values_of values) → bits < 2 ^ shapes.width target
     → FitNames shapes (values_of (set values target bits))

@@ -55,7 +55,7 @@ module _ (shapes : Shapes) (v : Values) where
       by r false = refl
 
   -- the blocks of a circuit
-  given_blocks : (r : ℕ) (ss : List Stmt) → all_given shapes v (actions_view ss) r ≡ given_by (map (process_of shapes) (map action_view ss)) v r
+  pub given_blocks : (r : ℕ) (ss : List Stmt) → all_given shapes v (actions_view ss) r ≡ given_by (map (process_of shapes) (map action_view ss)) v r
   given_blocks r [] = refl
   given_blocks r (s ∷ ss) = ap (later (given shapes v (action_view s) r)) (given_blocks r ss)
 

@@ -1,5 +1,5 @@
 -- What a simulator needs of a module and of the order in which it evaluates the assignments.
-use Rattle.std.specs.Prelude.{◌≡◌, ℕ, ◌<◌, Bool, true, false, ◌&&◌, nat_lt, IsTrue, List, [], ◌∷◌, Option, Some, get_or, unwrap_or, slice_get, slice_index}
+use Rattle.std.specs.Prelude.{◌≡◌, ℕ, ◌<◌, Bool, true, false, ◌&&◌, ◌||◌, nat_lt, IsTrue, List, [], ◌∷◌, Option, Some, get_or, unwrap_or, slice_get, slice_index, is_some}
 use Rattle.verilog_tree.specs.Tree.{Action, Actions, Block, When, Either, Give, no_action, action, Assignment, Design}
 use Rattle.verilog_tree.specs.Meaning.{Shapes, Values, fits, is_width, assigned, IsFitting}
 use Rattle.verilog_tree.specs.Names.{shapes_of}
@@ -55,3 +55,7 @@ pub record IsSettledTo (c : Circuit) (content : Values) (order : List ℕ) (plac
 -- the registers with the values that are given to them
 pub record Given (given : ℕ → Option ℕ) (before after : Values) : Type 0 where
   pub each : (register : ℕ) → after register ≡ unwrap_or (given register) (before register)
+
+-- the flags with those of the registers set to which values are given
+pub record Marked (given : ℕ → Option ℕ) (before after : ℕ → Bool) : Type 0 where
+  pub each : (register : ℕ) → after register ≡ (before register || is_some (given register))

@@ -3,17 +3,18 @@
 ghost use Rattle.std.specs.Prelude.{◌≡◌, ℕ, ◌^◌, ◌<◌, ◌≤◌, IfOk, length, Some, slice_get, not, ◌==◌};
 ghost use Rattle.verilog_tree.specs.Meaning.{FitNames, bit_of};
 ghost use Rattle.verilog_tree.specs.Names.{shapes_of, number_of};
-ghost use Rattle.verilog_tree.specs.Circuit.{IsSettling, with_inputs, next};
+ghost use Rattle.verilog_tree.specs.Circuit.{Driver, IsSettling, given_by, next, put, with_inputs};
 ghost use Rattle.verilog_tree.specs.Cycle.{circuit_of};
 ghost use Rattle.verilog_tree.specs.Shown.{inputs_of, ports_of};
 ghost use Rattle.verilog_tree.specs.View.{design_view};
 ghost use Rattle.verilog_tree.specs.declared.tree.Signal.{Signal};
-ghost use Rattle.clock_sim.specs.Simulated.{table_shapes, values_of};
+ghost use Rattle.settle_order.specs.Placing.{opened_of};
+ghost use Rattle.clock_sim.specs.Simulated.{table_shapes, values_of, Marked};
 ghost use Rattle.clock_sim.specs.Tables.{TellsShapes};
 ghost use Rattle.clock_sim.specs.Sim.{Simulation, IsSound, ArePorts, is_register, AreInitial, HoldInitial, IsDataWidth, cycle_of};
 
 use crate::shape_table::{ShapeTable, table_of};
-use crate::steps::{edge, settle, write};
+use crate::steps::{edge, evaluate, mark_blocks, settle, write};
 use mr_values::Memory;
 use settle_order::evaluation_order;
 use std::alloc::Global;
@@ -174,6 +175,7 @@ impl<'a> Sim<'a> {
         requires fits { AreInitial (shapes_of (design_view design.now)) design.now.signals.items initial.now }
         ensures design { IfOk result (λ sim. sim.design ≡ design.now) }
         ensures values { IfOk result (λ sim. HoldInitial design.now.signals.items initial.now sim.values) }
+        ensures count { IfOk result (λ sim. length sim.values ≡ length design.now.names.items) }
     {
         let count = design.names.len();
         let ports = port_names(design);
@@ -203,9 +205,40 @@ impl<'a> Sim<'a> {
         settle(&self.table, self.design, self.order.as_slice(), values);
     }
 
+    /// Sets the inputs, of which `in_data` fits its port. It takes no memory.
+    pub fn set_inputs(&mut self, rst: bool, ce: bool, in_data: u128)
+        requires { in_data < 2 ^ (shapes_of (design_view self.old.design)).width (ports_of (design_view self.old.design)).in_data }
+        ensures design { self.new.design ≡ self.old.design }
+        ensures count { length self.new.values ≡ length self.old.values }
+        ensures set { values_of self.new.values ≡ with_inputs (inputs_of (ports_of (design_view self.old.design)) (cycle_of rst ce in_data)) (values_of self.old.values) }
+    {
+        let values = self.values.as_mut_slice();
+        set_inputs(self.design, self.ports, rst, ce, in_data, values);
+    }
+
+    /// Gives the wire of the assignment at this place the value of its expression. It takes no memory.
+    pub fn evaluate(&mut self, place: usize)
+        requires { place < length self.old.design.assigns.items }
+        ensures design { self.new.design ≡ self.old.design }
+        ensures count { length self.new.values ≡ length self.old.values }
+        ensures value { (d : Driver) → slice_get (circuit_of (design_view self.old.design)).drivers place ≡ Some d → values_of self.new.values ≡ put (values_of self.old.values) d.target (d.value (values_of self.old.values)) }
+    {
+        let values = self.values.as_mut_slice();
+        evaluate(&self.table, self.design, place, values);
+    }
+
+    /// Sets the flags of the registers to which the blocks give a value, of as many flags as there are names. It takes no memory.
+    pub fn mark_given(&self, marks: &mut [bool])
+        requires { length marks.old ≡ length self.now.values }
+        ensures { Marked (given_by (circuit_of (design_view self.now.design)).processes (values_of self.now.values)) (opened_of marks.old) (opened_of marks.new) }
+    {
+        mark_blocks(&self.table, self.design, self.values.as_slice(), marks);
+    }
+
     /// All registers change together, to what the blocks give them. It takes no memory.
     pub fn edge(&mut self)
         ensures design { self.new.design ≡ self.old.design }
+        ensures count { length self.new.values ≡ length self.old.values }
         ensures next { (name : ℕ) → values_of self.new.values name ≡ next (circuit_of (design_view self.old.design)) (values_of self.old.values) name }
     {
         edge(

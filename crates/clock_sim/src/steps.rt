@@ -1,13 +1,13 @@
 // The plain steps of a simulator: the wires are settled in an order, and the registers change together.
 
-ghost use Rattle.std.specs.Prelude.{◌≡◌, ℕ, ◌^◌, ◌<◌, ◌≤◌, IsTrue, length, set};
+ghost use Rattle.std.specs.Prelude.{◌≡◌, ℕ, ◌^◌, ◌<◌, ◌≤◌, IsTrue, Some, length, set, slice_get};
 ghost use Rattle.verilog_tree.specs.Meaning.{FitNames, IsFitting, fits, assigned};
 ghost use Rattle.verilog_tree.specs.Names.{shapes_of};
-ghost use Rattle.verilog_tree.specs.Circuit.{IsSettling, next};
+ghost use Rattle.verilog_tree.specs.Circuit.{Driver, IsSettling, given_by, next, put};
 ghost use Rattle.verilog_tree.specs.Cycle.{circuit_of, IsDrivenOnce, given, condition_holds};
 ghost use Rattle.verilog_tree.specs.View.{tree_view, action_view, actions_view, design_view};
-ghost use Rattle.settle_order.specs.Placing.{IsEvaluationOrder};
-ghost use Rattle.clock_sim.specs.Simulated.{table_shapes, values_of, AssignsFit, action_fits, actions_fit, all_given, blocks_fit, Given};
+ghost use Rattle.settle_order.specs.Placing.{IsEvaluationOrder, opened_of};
+ghost use Rattle.clock_sim.specs.Simulated.{table_shapes, values_of, AssignsFit, action_fits, actions_fit, all_given, blocks_fit, Given, Marked};
 ghost use Rattle.clock_sim.specs.Tables.{TellsShapes};
 
 use crate::shape_table::ShapeTable;
@@ -51,6 +51,20 @@ fn holds(table: &ShapeTable, design: &Module, condition: &Expr, values: &[u128])
     alone(table, condition, values) != 0
 }
 
+/// Gives the wire of the assignment at a place the value of its expression.
+pub(crate) fn evaluate(table: &ShapeTable, design: &Module, place: usize, values: &mut [u128])
+    requires table { TellsShapes (table_shapes table.now.widths.items table.now.signs.items) (shapes_of (design_view design.now)) }
+    requires fits { AssignsFit (design_view design.now) (length values.old) }
+    requires names { FitNames (shapes_of (design_view design.now)) (values_of values.old) }
+    requires place { place < length design.now.assigns.items }
+    ensures value { (d : Driver) → slice_get (circuit_of (design_view design.now)).drivers place ≡ Some d → values_of values.new ≡ put (values_of values.old) d.target (d.value (values_of values.old)) }
+    ensures names { FitNames (shapes_of (design_view design.now)) (values_of values.new) }
+{
+    let assign = &design.assigns.as_slice()[place];
+    let bits = value_for(table, design, assign.target, &assign.value, values);
+    write(values, assign.target, bits);
+}
+
 /// Evaluates each assignment once, in this order.
 pub(crate) fn settle(table: &ShapeTable, design: &Module, order: &[usize], values: &mut [u128])
     requires driven { IsDrivenOnce (design_view design.now) }
@@ -62,10 +76,58 @@ pub(crate) fn settle(table: &ShapeTable, design: &Module, order: &[usize], value
     ensures names { FitNames (shapes_of (design_view design.now)) (values_of values.new) }
 {
     for place in order {
-        let assign = &design.assigns.as_slice()[*place];
-        let bits = value_for(table, design, assign.target, &assign.value, values);
-        write(values, assign.target, bits);
+        evaluate(table, design, *place, values);
     }
+}
+
+// Sets the flags of the registers to which a statement gives a value.
+#[cycle(mark)]
+fn mark(table: &ShapeTable, design: &Module, statement: &Stmt, values: &[u128], marks: &mut [bool])
+    requires table { TellsShapes (table_shapes table.now.widths.items table.now.signs.items) (shapes_of (design_view design.now)) }
+    requires names { FitNames (shapes_of (design_view design.now)) (values_of values.now) }
+    requires fits { IsTrue (action_fits (shapes_of (design_view design.now)) (length marks.old) (action_view statement.now)) }
+    ensures { Marked (given (shapes_of (design_view design.now)) (values_of values.now) (action_view statement.now)) (opened_of marks.old) (opened_of marks.new) }
+{
+    match statement {
+        Stmt::Block(parts) => mark_all(table, design, parts, values, marks),
+        Stmt::If(condition, first, second) => {
+            if holds(table, design, condition, values) {
+                mark(table, design, first, values, marks);
+            } else if let Some(other) = second {
+                mark(table, design, other, values, marks);
+            }
+        }
+        Stmt::Set(target, _) => marks[*target] = true,
+    }
+}
+
+// Sets the flags of the registers to which one of these statements gives a value.
+#[cycle(mark)]
+fn mark_all(
+    table: &ShapeTable,
+    design: &Module,
+    statements: &[Stmt],
+    values: &[u128],
+    marks: &mut [bool],
+)
+    requires table { TellsShapes (table_shapes table.now.widths.items table.now.signs.items) (shapes_of (design_view design.now)) }
+    requires names { FitNames (shapes_of (design_view design.now)) (values_of values.now) }
+    requires fits { IsTrue (actions_fit (shapes_of (design_view design.now)) (length marks.old) (actions_view statements.now)) }
+    ensures { Marked (all_given (shapes_of (design_view design.now)) (values_of values.now) (actions_view statements.now)) (opened_of marks.old) (opened_of marks.new) }
+{
+    for statement in statements {
+        mark(table, design, statement, values, marks);
+    }
+}
+
+/// Sets the flags of the registers to which the blocks give a value, by these values.
+pub(crate) fn mark_blocks(table: &ShapeTable, design: &Module, values: &[u128], marks: &mut [bool])
+    requires table { TellsShapes (table_shapes table.now.widths.items table.now.signs.items) (shapes_of (design_view design.now)) }
+    requires names { FitNames (shapes_of (design_view design.now)) (values_of values.now) }
+    requires fits { IsTrue (blocks_fit (shapes_of (design_view design.now)) (length marks.old) (design_view design.now).blocks) }
+    ensures { Marked (given_by (circuit_of (design_view design.now)).processes (values_of values.now)) (opened_of marks.old) (opened_of marks.new) }
+{
+    mark_all(table, design, &design.blocks, values, marks);
 }
 
 // Gives the registers what a statement gives them, by the values of before the edge.

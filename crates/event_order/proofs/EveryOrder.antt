@@ -19,10 +19,10 @@ later_none a None is = (is, refl)
 later_none a (Some y) is = absurd (grind arith)
 
 -- the block that gives a register its value
-abbrev Gives : List Process → Values → ℕ → ℕ → Type 0
+abbrev pub Gives : List Process → Values → ℕ → ℕ → Type 0
 Gives ps v register x = (k : ℕ) × (p : Process) × (slice_get ps k ≡ Some p) × (p v register ≡ Some x)
 
-given_some : (ps : List Process) (v : Values) (register x : ℕ) → given_by ps v register ≡ Some x → Gives ps v register x
+pub given_some : (ps : List Process) (v : Values) (register x : ℕ) → given_by ps v register ≡ Some x → Gives ps v register x
 given_some [] v register x is = absurd (grind arith)
 given_some (p ∷ ps) v register x is = by (later_some (p v register) (given_by ps v register) x is) (given_some ps v register x)
   where
@@ -42,12 +42,12 @@ evaluation_only k e = grind arith
 module _ (c : Circuit) (sound : IsSound c) where
   -- ---- before the outputs are read
 
-  record Settles (content : Values) (m : Moment) : Type 0 where
-    awake : IsAwake c m
-    sources : (n : ℕ) → IsSource c n → m.values n ≡ content n
-    is_updated : IsUpdated m
+  pub record Settles (content : Values) (m : Moment) : Type 0 where
+    pub awake : IsAwake c m
+    pub sources : (n : ℕ) → IsSource c n → m.values n ≡ content n
+    pub is_updated : IsUpdated m
 
-  settle_step : (content : Values) (m : Moment) (s : Step) (after : Moment) → is_evaluation s ≡ true → Settles content m → IsStep c m s after → Settles content after
+  pub settle_step : (content : Values) (m : Moment) (s : Step) (after : Moment) → is_evaluation s ≡ true → Settles content m → IsStep c m s after → Settles content after
   settle_step content m (Evaluate k) after ok h (d, at, is) = subst (Settles content) (sym is) (record {
     awake = evaluated_awake c sound k d m at h.awake;
     sources = λ n source. evaluated_source c sound k d m at n source ∙ h.sources n source;
@@ -57,17 +57,17 @@ module _ (c : Circuit) (sound : IsSound c) where
   settle_step content m (Update r) after ok h step = absurd (evaluation_only r ok)
 
   -- the inputs are set
-  inputs_set : (inputs : List Input) (m : Moment) → AreInputs c inputs → IsAwake c m → IsUpdated m → Settles (with_inputs inputs m.values) (with_inputs_set c inputs m)
+  pub inputs_set : (inputs : List Input) (m : Moment) → AreInputs c inputs → IsAwake c m → IsUpdated m → Settles (with_inputs inputs m.values) (with_inputs_set c inputs m)
   inputs_set [] m are awake is_updated = record { awake = awake; sources = λ n source. refl; is_updated = is_updated }
   inputs_set (i ∷ is) m are awake is_updated =
       inputs_set is (changed c i.name i.value m) (λ k d lt. are (suc k) d (omega (arith, lt))) (source_awake c sound i.name i.value m (are 0 i (omega arith)) awake) is_updated
 
   -- ---- while the blocks run
 
-  record Runs (v : Values) (m : Moment) : Type 0 where
-    same : m.values ≡ v
-    owed : (k : ℕ) (p : Process) (register x : ℕ) → slice_get c.processes k ≡ Some p → m.waiting k ≡ false → p v register ≡ Some x → m.updates register ≡ Some x
-    given : (register x : ℕ) → m.updates register ≡ Some x → (k : ℕ) × (p : Process) × (slice_get c.processes k ≡ Some p) × (m.waiting k ≡ false) × (p v register ≡ Some x)
+  pub record Runs (v : Values) (m : Moment) : Type 0 where
+    pub same : m.values ≡ v
+    pub owed : (k : ℕ) (p : Process) (register x : ℕ) → slice_get c.processes k ≡ Some p → m.waiting k ≡ false → p v register ≡ Some x → m.updates register ≡ Some x
+    pub given : (register x : ℕ) → m.updates register ≡ Some x → (k : ℕ) × (p : Process) × (slice_get c.processes k ≡ Some p) × (m.waiting k ≡ false) × (p v register ≡ Some x)
 
   run_keeps : (v : Values) (m : Moment) (place : ℕ) (q : Process) → slice_get c.processes place ≡ Some q → Runs v m → Runs v (ran place q m)
   run_keeps v m place q found h = record {
@@ -105,7 +105,7 @@ module _ (c : Circuit) (sound : IsSound c) where
           done : (if place == place then false else m.waiting place) ≡ false
           done = ap (λ (b : Bool). if b then false else m.waiting place) (eq-eqb place place refl)
 
-  run_step : (v : Values) → IsSettled c v → (m : Moment) (s : Step) (after : Moment) → is_update s ≡ false → Runs v m → IsStep c m s after → Runs v after
+  pub run_step : (v : Values) → IsSettled c v → (m : Moment) (s : Step) (after : Moment) → is_update s ≡ false → Runs v m → IsStep c m s after → Runs v after
   run_step v settled m (Evaluate k) after ok h (d, at, is) = subst (Runs v) (sym is) (record {
     same = evaluated_settled c sound k d m at (subst (IsSettled c) (sym h.same) settled) ∙ h.same;
     owed = h.owed;
@@ -114,8 +114,19 @@ module _ (c : Circuit) (sound : IsSound c) where
   run_step v settled m (Run k) after ok h (p, at, waits, is) = subst (Runs v) (sym is) (run_keeps v m k p at h)
   run_step v settled m (Update r) after ok h step = absurd (evaluation_only r (sym ok))
 
+  -- before any block has run
+  pub first_runs : (m : Moment) → IsUpdated m → Runs m.values (record m { waiting = λ k. true })
+  first_runs m is_updated = record {
+    same = refl;
+    owed = λ k p register x at done gives. absurd (grind arith);
+    given = λ register x is. absurd (never x (sym (is_updated register) ∙ is));
+  }
+    where
+      never : (x : ℕ) → None ≡ Some x → ⊥
+      never x same = grind arith
+
   -- where all blocks have run, the updates to come are those that the blocks give
-  all_given : (v : Values) (m : Moment) → Runs v m → HasRun c m → (register : ℕ) → m.updates register ≡ given_by c.processes v register
+  pub all_given : (v : Values) (m : Moment) → Runs v m → HasRun c m → (register : ℕ) → m.updates register ≡ given_by c.processes v register
   all_given v m h has_run register = by (given_by c.processes v register) refl (m.updates register) refl
     where
       by : (o : Option ℕ) → given_by c.processes v register ≡ o → (u : Option ℕ) → m.updates register ≡ u → m.updates register ≡ given_by c.processes v register
@@ -179,11 +190,7 @@ module _ (c : Circuit) (sound : IsSound c) where
       let settles = steps_keep c sound (Settles (with_inputs inputs start.values)) (λ s. is_evaluation s ≡ true) (settle_step (with_inputs inputs start.values))
       (with_inputs_set c inputs start) steps.settle read order.settle_steps (inputs_set inputs start are begins.awake begins.is_updated) order.settle in
       let settled : IsSettled c v = λ k d at. settles.awake k d at (order.quiet k d at) in
-      let first : Runs v (record read { waiting = λ k. true }) = record {
-        same = refl;
-        owed = λ k p register x at done gives. absurd (grind arith);
-        given = λ register x is. absurd (never register x (sym (settles.is_updated register) ∙ is));
-      } in
+      let first : Runs v (record read { waiting = λ k. true }) = first_runs read settles.is_updated in
       let runs = steps_keep c sound (Runs v) (λ s. is_update s ≡ false) (run_step v settled) (record read { waiting = λ k. true }) steps.edge order.run order.edge_steps first order.edge in
       let all = all_given v order.run runs order.has_run in
       let begin : Updates v order.run = record {
@@ -197,9 +204,6 @@ module _ (c : Circuit) (sound : IsSound c) where
         record { awake = updates.awake; is_updated = order.is_updated },
       )
     where
-      never : (register x : ℕ) → None ≡ Some x → ⊥
-      never register x same = grind arith
-
       registers : Runs read.values order.run → (register x : ℕ) → order.run.updates register ≡ Some x → IsSource c register
       registers runs register x is =
           let found = runs.given register x is in

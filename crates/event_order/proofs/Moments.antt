@@ -31,7 +31,7 @@ and_false false b e = inr e
 pub same_some : {A : Type 0} (x y : A) → Some x ≡ Some y → x ≡ y
 same_some x y same = cc
 
-reads_here : (c : Circuit) (n k : ℕ) (d : Driver) → slice_get c.drivers k ≡ Some d → reads_at c n k ≡ d.reads n
+pub reads_here : (c : Circuit) (n k : ℕ) (d : Driver) → slice_get c.drivers k ≡ Some d → reads_at c n k ≡ d.reads n
 reads_here c n k d at = ap (λ (o : Option Driver). option_map_or (λ (e : Driver). e.reads n) o false) at
 
 module _ (c : Circuit) (sound : IsSound c) where

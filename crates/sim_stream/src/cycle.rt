@@ -26,15 +26,15 @@ pub fn signed_value(shape: PortShape, bits: u128) -> i128
     -(((1u128 << shape.width) - bits) as i128)
 }
 
-// A cycle with `rst` 0 and `ce` 1.
-fn is_tick(stimulus: Stimulus) -> bool
+/// Whether a cycle has `rst` 0 and `ce` 1.
+pub fn is_tick(stimulus: Stimulus) -> bool
     ensures { result ≡ is_tick (cycle_at stimulus) }
 {
     stimulus.ce && !stimulus.rst
 }
 
-// The ticks since the last reset, after this cycle.
-fn ticks_after(stimulus: Stimulus, tick: u64) -> u64
+/// The ticks since the last reset, after this cycle.
+pub fn ticks_after(stimulus: Stimulus, tick: u64) -> u64
     requires { tick < 2 ^ 32 }
     ensures ticks { result ≡ ticks_after (cycle_at stimulus) tick }
     ensures most { result ≤ tick + 1 }

@@ -6,8 +6,8 @@ mod laws;
 mod start;
 mod stream;
 
-pub use cycle::signed_value;
+pub use cycle::{is_tick, signed_value, ticks_after};
 pub use laws::law_of_one_text;
 pub use row_stream::StreamFault;
-pub use start::zero_sim;
+pub use start::{register_count, zero_sim};
 pub use stream::SimStream;

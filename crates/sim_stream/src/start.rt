@@ -9,8 +9,8 @@ use mr_values::Memory;
 use std::alloc::Global;
 use verilog_tree::{Kind, Module};
 
-// How many registers a module has.
-fn register_count(design: &Module) -> usize
+/// How many registers a module has.
+pub fn register_count(design: &Module) -> usize
     ensures { result ≡ register_count design.now.signals.items }
 {
     let mut count = 0;

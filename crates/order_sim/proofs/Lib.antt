@@ -1,0 +1,7 @@
+pub mod Cycles
+pub mod Flags
+pub mod Given
+pub mod Passing
+pub mod Reading
+pub mod Settling
+pub mod Turns

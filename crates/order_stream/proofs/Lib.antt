@@ -1,0 +1,3 @@
+pub mod CycleSteps
+pub mod OneText
+pub mod RowSteps
