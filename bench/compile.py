@@ -6,26 +6,13 @@ Usage: bench/compile.py [PROGRAM]   (by default crates/filter_cli/out/filter_cli
 A growth above 1 says that the time grew faster than the terms times their logarithm from one size to the next.
 """
 import math
-import os
-import subprocess
 import sys
 import tempfile
-import time
+
+from measuring import drawn_taps, filter_plan, measured, program_of, write
 
 SIZES = (64, 256, 1024)
 RUNS = 3
-
-
-def draws(state):
-    """Numbers that are the same in every run."""
-    while True:
-        state = (6364136223846793005 * state + 1442695040888963407) % 2**64
-        yield state >> 33
-
-
-def taps(count):
-    source = draws(count)
-    return [next(source) % 65536 - 32768 for _ in range(count)]
 
 
 def weight(tap):
@@ -39,31 +26,18 @@ def weight(tap):
     return digits
 
 
-def plan(values):
-    return 'version = 1\nwidth = 16\n[[element]]\nkind = "filter"\ntaps = %s\n' % values
-
-
 def seconds(program, folder):
-    best = math.inf
-    for _ in range(RUNS):
-        start = time.perf_counter()
-        done = subprocess.run([program, "compile", "plan.toml", "out.v", "out.txt"], cwd=folder)
-        best = min(best, time.perf_counter() - start)
-        if done.returncode != 0:
-            sys.exit(f"compile ended with status {done.returncode}")
-    return best
+    return min(measured([program, "compile", "plan.toml", "out.v", "out.txt"], folder)[0] for _ in range(RUNS))
 
 
 def main():
-    top = os.path.dirname(os.path.dirname(os.path.abspath(__file__)))
-    program = os.path.abspath(sys.argv[1]) if len(sys.argv) > 1 else os.path.join(top, "crates/filter_cli/out/filter_cli")
+    program = program_of(sys.argv)
     before = None
     for count in SIZES:
-        values = taps(count)
+        values = drawn_taps(count)
         terms = sum(weight(tap) for tap in values)
         with tempfile.TemporaryDirectory() as folder:
-            with open(os.path.join(folder, "plan.toml"), "w") as file:
-                file.write(plan(values))
+            write(folder, "plan.toml", filter_plan(values))
             took = seconds(program, folder)
         line = f"taps {count} terms {terms} seconds {took:.3f}"
         if before is not None:
