@@ -10,6 +10,7 @@ mod files;
 mod noble_command;
 mod report;
 mod row_files;
+mod sim_command;
 mod status;
 mod tool;
 mod words;
