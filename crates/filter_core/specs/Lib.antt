@@ -8,6 +8,8 @@ pub mod Reading
 pub mod CommandWords
 pub mod Compile
 pub mod Noble
+pub mod SimText
+pub mod Sim
 pub mod Tool
 pub mod FaultWords
 pub mod FaultLines

@@ -2,6 +2,7 @@ use Rattle.std.proofs.Common.{subst}
 use Rattle.filter_core.specs.CommandWords.{words_of}
 use Rattle.filter_core.specs.Tool.{IsReady}
 use Rattle.filter_core.proofs.Completeness.{compile-complete, noble-complete}
+use Rattle.filter_core.proofs.SimSteps.{sim-complete}
 use Rattle.filter_core.proofs.tool.run.Goals as goal
 
 pub returns-in-Compile-clause-complete : goal.returns-in-Compile-clause-complete
@@ -17,3 +18,10 @@ returns-in-Noble-clause-complete g c = λ told ready unstruck.
     let new = g.H.Host.state c.noble.new.host in
     let accepted = subst (λ command. IsReady (words_of command) old.files) c.in-Noble.is ready in
     noble-complete c.in-Noble.plan.now c.in-Noble.out.now c.noble.result old new (c.noble.ensures.cause.struck told) (c.noble.ensures.told told) accepted.0 accepted.1 unstruck
+
+pub returns-in-Sim-clause-complete : goal.returns-in-Sim-clause-complete
+returns-in-Sim-clause-complete g c = λ told ready unstruck.
+    let old = g.H.Host.state c.args.host.now in
+    let new = g.H.Host.state c.sim.new.host in
+    let accepted = subst (λ command. IsReady (words_of command) old.files) c.in-Sim.is ready in
+    sim-complete c.in-Sim.text.now c.in-Sim.stimulus.now c.in-Sim.out.now c.sim.result old new (c.sim.ensures.cause.struck told) (c.sim.ensures.told told) accepted unstruck

@@ -1,0 +1,7 @@
+use Rattle.std.proofs.Common.{map, string_bytes, sym}
+use Rattle.filter_core.specs.CommandWords.{words_of}
+use Rattle.filter_core.proofs.Apart.{are_apart}
+use Rattle.filter_core.proofs.tool.filter_tool.Goals as goal
+
+pub run-requires : goal.run-requires
+run-requires g c = are_apart (map string_bytes c.args.words.now) (words_of c.in-Some.command) (sym c.in-Some.ensures)
