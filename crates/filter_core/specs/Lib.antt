@@ -8,6 +8,7 @@ pub mod Reading
 pub mod CommandWords
 pub mod Compile
 pub mod Noble
+pub mod Run
 pub mod Tool
 pub mod FaultWords
 pub mod FaultLines
