@@ -53,6 +53,12 @@ front_part a b bytes left rest more front behind some goes is =
     let next = some (left ++ rest) in
     (behind ++ next.0, next.1, subst (λ (all : List ℕ). a (bytes ++ rest) all next.1) (ap (λ (all : List ℕ). all ++ next.0) is ∙ append_assoc front behind next.0) (goes.gives rest next.0 next.1 next.2))
 
+-- the same at the end of the file
+end_part : (a b : Giving) (more front behind : List ℕ) → GivesSome b → EndsOn a b more → more ≡ front ++ behind → GivesFront a [] front
+end_part a b more front behind some ends is =
+    let next = some [] in
+    (behind ++ next.0, next.1, subst (λ (all : List ℕ). a [] all next.1) (ap (λ (all : List ℕ). all ++ next.0) is ∙ append_assoc front behind next.0) (ends.gives next.0 next.1 next.2))
+
 -- ---- a call of a stream, and its output handed on
 
 module _ (a b : Giving) (piece bytes : List ℕ) (some_a : GivesSome a) (some_b : GivesSome b) where

@@ -8,6 +8,7 @@ pub mod Reading
 pub mod CommandWords
 pub mod Compile
 pub mod Noble
+pub mod Run
 pub mod SimText
 pub mod Sim
 pub mod Tool

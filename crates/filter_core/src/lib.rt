@@ -9,6 +9,7 @@ mod fault_words;
 mod files;
 mod noble_command;
 mod row_files;
+mod run_command;
 mod sim_command;
 mod status;
 mod tool;

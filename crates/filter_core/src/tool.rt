@@ -10,6 +10,7 @@ ghost use Rattle.filter_core.specs.Tool.{CommandEnds, ToolEnds, IsUnbuilt, IsUnb
 use crate::Fault;
 use crate::compile_command::compile;
 use crate::noble_command::noble;
+use crate::run_command::run_plan;
 use crate::sim_command::sim;
 use crate::status::status_of;
 use crate::words::{Command, read_words};
@@ -74,7 +75,7 @@ fn run<H: Host>(alloc: Global, command: Command<'_>, host: &mut H) -> Result<(),
 {
     match command {
         Command::Compile { plan, text, report } => compile(alloc, plan, text, report, host),
-        Command::Run { .. } => Err(Fault::NotBuilt),
+        Command::Run { plan, samples, out } => run_plan(alloc, plan, samples, out, host),
         Command::Sim {
             text,
             stimulus,
