@@ -1,39 +1,35 @@
 -- The net of a plan, part by part.
-use Rattle.std.proofs.Common.{◌≡◌, ◌⊎◌, ℕ, zero, suc, ◌+◌, ◌-◌, ◌*◌, ◌<◌, ◌≤◌, ◌^◌, List, [], ◌∷◌, length, refl, sym, ◌∙◌, ap, arith, Option, Some, None, slice_get, inl, inr, subst, ℤ, pos, negsuc, ◌≤ℤ◌, IsSome, true, false, Bool}
+use Rattle.std.proofs.Common.{◌≡◌, ◌⊎◌, ℕ, zero, suc, ◌+◌, ◌-◌, ◌*◌, ◌<◌, ◌≤◌, ◌^◌, List, [], ◌∷◌, length, refl, sym, ◌∙◌, ap, arith, Some, None, slice_get, inl, inr, subst, ℤ, pos, negsuc, IsSome, true, false}
 use Rattle.std.specs.Prelude.{unsigned_abs}
 use Rattle.std.proofs.lemmas.Int.{ints}
 use Rattle.std.proofs.lemmas.Nat.{pow_pos}
 use Rattle.std.proofs.lemmas.Bool.{cases_lt}
 use Rattle.mr_values.specs.declared.plan.Element.{Element}
 use Rattle.mr_values.specs.declared.plan.Element.TheVariants.{Up, Down, Filter, CicDown, CicUp, Round}
-use Rattle.mr_values.specs.Sequence.{Sequence}
 use Rattle.mr_values.specs.declared.plan.Form.TheVariants.{Parallel, Symmetric, HalfBand, Folded, Distributed}
 use Rattle.mr_values.specs.Timing.{Group, Fir, DownCic, UpCic, Rounding, join_up, join_filter, groups, input, last_stream, latency}
 use Rattle.mr_values.specs.Value.{chain, size}
-use Rattle.mr_values.specs.Width.{FitsWidth, IsLeastWidth}
+use Rattle.mr_values.specs.Width.{FitsWidth}
 use Rattle.net_graph.specs.declared.cell.Cell.{Cell}
 use Rattle.net_graph.specs.declared.cell.Node.{Node}
 use Rattle.net_graph.specs.declared.cell.Stream.{Stream}
 use Rattle.net_graph.specs.declared.cell.Item.TheVariants.{Input}
-use Rattle.net_graph.specs.declared.name.Name.{Name}
 use Rattle.net_graph.specs.Cells.{NetView}
 use Rattle.net_graph.specs.Name.{is_control, is_input}
-use Rattle.net_graph.specs.WellFormed.{IsWellFormed, IsBound, IsFree}
+use Rattle.net_graph.specs.WellFormed.{IsWellFormed, IsBound}
 use Rattle.net_graph.specs.Control.{IsControlClosed}
 use Rattle.net_graph.specs.Cut.{Cut, IsCut, cut_all, cut_control}
-use Rattle.net_graph.specs.Run.{Values, IsRun}
 use Rattle.net_graph.specs.Grow.{Adds}
 use Rattle.net_graph.proofs.CutLemmas.{IsCut-all, IsCut-control}
 use Rattle.net_graph.proofs.NetLemmas.{cell_of_added}
 use Rattle.pipeline_balance.specs.Gate.{IsTickOf, IsBitOf, Carries}
 use Rattle.plan_laws.specs.Laws.{IsBetween}
 use Rattle.rounding_stage.proofs.MapLemmas.{fits_between}
-use Rattle.span_ranges.specs.Span.{IsInSpan}
-use Rattle.stage_law.specs.declared.stage.Cost.{Cost}
+use Rattle.chain_build.specs.declared.groups.GroupCost.{GroupCost}
 use Rattle.chain_build.specs.declared.output.Outputs.{Outputs}
 use Rattle.chain_build.specs.Added.{IsGrown, AreNameless, CarriesChain, IsChained}
-use Rattle.chain_build.specs.Built.{are_built, is_built, AreBuiltGroups}
-use Rattle.chain_build.specs.ChainNet.{HasInput, HasSamples, ShowsValues, IsChainNet}
+use Rattle.chain_build.specs.Built.{are_built, AreBuiltGroups}
+use Rattle.chain_build.specs.ChainNet.{HasInput, ShowsValues, IsChainNet}
 use Rattle.chain_build.specs.GroupCosts.{AreUngrouped, AreApart, HasCosts}
 use Rattle.chain_build.specs.Output.{AddsOutputs}
 use Rattle.chain_build.proofs.CostsSoFar.{HasCosts-outputs}
@@ -184,5 +180,5 @@ module _ {n1 n2 n3 : NetView} {node : Node} {stream : Stream} {outputs : Outputs
   }
 
   -- the outputs cost nothing
-  pub chain_costs : {costs : List Cost} → IsWellFormed n3.cells → (AreApart n2.cells → HasCosts (groups elements) costs n2.cells) → HasCosts (groups elements) costs n3.cells
+  pub chain_costs : {costs : List GroupCost} → IsWellFormed n3.cells → (AreApart n2.cells → HasCosts (groups elements) costs n2.cells) → HasCosts (groups elements) costs n3.cells
   chain_costs formed of_groups = HasCosts-outputs outs.adders outs.named (of_groups (AreApart-before outs.grown.extends (record { apart = formed.apart })))

@@ -1,5 +1,5 @@
 -- What the groups that were added so far cost.
-use Rattle.std.proofs.Common.{◌≡◌, ℕ, zero, suc, ◌+◌, ◌<◌, ◌≤◌, ◌⊎◌, List, [], ◌∷◌, ◌++◌, length, Some, slice_get, refl, sym, ◌∙◌, ap, subst, arith, inl, inr, append_assoc, append-nil}
+use Rattle.std.proofs.Common.{◌≡◌, ℕ, suc, ◌+◌, ◌<◌, ◌≤◌, ◌⊎◌, List, [], ◌∷◌, ◌++◌, length, Some, slice_get, refl, sym, ◌∙◌, ap, subst, arith, inl, inr, append_assoc, append-nil}
 use Rattle.std.proofs.lemmas.Bool.{cases_lt}
 use Rattle.mr_values.specs.Timing.{Group, Fir, DownCic, UpCic, Rounding}
 use Rattle.net_graph.specs.declared.cell.Cell.{Cell}
@@ -8,17 +8,17 @@ use Rattle.net_graph.specs.declared.name.Name.{Name}
 use Rattle.net_graph.specs.declared.name.NameKind.TheVariants.{Control}
 use Rattle.net_graph.specs.Cells.{NetView, cell_at}
 use Rattle.net_graph.specs.Count.{adders_in, windows_in, tables_in}
-use Rattle.net_graph.specs.Grow.{Extends, Grows}
+use Rattle.net_graph.specs.Grow.{Grows}
 use Rattle.net_graph.specs.WellFormed.{IsBound, IsFree}
 use Rattle.net_graph.proofs.CellLemmas.{cell_at-there, same_cell}
 use Rattle.pipeline_balance.specs.Costs.{SameAdders, SameNamed}
 use Rattle.stage_law.specs.Facts.{StageFacts}
 use Rattle.stage_law.specs.Realises.{Realises}
 use Rattle.stage_law.specs.Streams.{Streams}
-use Rattle.stage_law.specs.declared.stage.Cost.{Cost}
 use Rattle.chain_build.specs.declared.groups.Added.{Added}
+use Rattle.chain_build.specs.declared.groups.GroupCost.{GroupCost}
 use Rattle.chain_build.specs.Added.{HasFacts, IsGroupAdded, AreNameless}
-use Rattle.chain_build.specs.GroupCosts.{IsCostOf, AreCostsOf, AreUngrouped, HasNoTables, AreApart, HasCosts}
+use Rattle.chain_build.specs.GroupCosts.{IsCostOf, AreCostsOf, AreUngrouped, AreApart, HasCosts}
 use Rattle.chain_build.proofs.Counting.{AreApart-before, HasSame, HasSame-grows, no_adders, no_windows, no_tables}
 
 -- the tables of the built groups
@@ -33,8 +33,9 @@ after_none n = omega arith
 
 -- ---- costs in a net that grows
 
-same_cost : (g : Group) (number : ℕ) (old new : List Cell) (cost : Cost) → 1 ≤ number → HasSame number old new → IsCostOf g number old cost → IsCostOf g number new cost
+same_cost : (g : Group) (number : ℕ) (old new : List Cell) (cost : GroupCost) → 1 ≤ number → HasSame number old new → IsCostOf g number old cost → IsCostOf g number new cost
 same_cost g number old new cost some same is = record {
+  kind = is.kind;
   facts = is.facts;
   has_facts = is.has_facts;
   adders = is.adders;
@@ -45,7 +46,7 @@ same_cost g number old new cost some same is = record {
   tables_in = same.tables ∙ is.tables_in;
 }
 
-pub same_costs : (number : ℕ) (gs : List Group) (costs : List Cost) (old new : List Cell) → 1 ≤ number → ((k : ℕ) → number ≤ k → k < number + length gs → HasSame k old new) → AreCostsOf number gs costs old → AreCostsOf number gs costs new
+pub same_costs : (number : ℕ) (gs : List Group) (costs : List GroupCost) (old new : List Cell) → 1 ≤ number → ((k : ℕ) → number ≤ k → k < number + length gs → HasSame k old new) → AreCostsOf number gs costs old → AreCostsOf number gs costs new
 same_costs number [] [] old new some same are = tt
 same_costs number [] (c ∷ costs) old new some same are = are
 same_costs number (g ∷ gs) [] old new some same are = are
@@ -54,7 +55,7 @@ same_costs number (g ∷ gs) (c ∷ costs) old new some same are = (
   same_costs (number + 1) gs costs old new (omega arith) (λ k low high. same k (omega (arith, low)) (omega (arith, high))) are.1,
 )
 
-costs_with : (number : ℕ) (gs : List Group) (costs : List Cost) (g : Group) (c : Cost) (cells : List Cell) → AreCostsOf number gs costs cells → IsCostOf g (number + length gs) cells c → AreCostsOf number (gs ++ g ∷ []) (costs ++ c ∷ []) cells
+costs_with : (number : ℕ) (gs : List Group) (costs : List GroupCost) (g : Group) (c : GroupCost) (cells : List Cell) → AreCostsOf number gs costs cells → IsCostOf g (number + length gs) cells c → AreCostsOf number (gs ++ g ∷ []) (costs ++ c ∷ []) cells
 costs_with number [] [] g c cells are is = (subst (λ (n : ℕ). IsCostOf g n cells c) (let e : number + 0 ≡ number = omega arith in e) is, tt)
 costs_with number [] (d ∷ costs) g c cells are is = absurd are
 costs_with number (h ∷ gs) [] g c cells are is = absurd are
@@ -63,7 +64,7 @@ costs_with number (h ∷ gs) (d ∷ costs) g c cells are is =
 
 -- ---- the groups so far
 
-pub record CostsSoFar (gs : List Group) (net : List Cell) (rest : List Group) (costs : List Cost) (number : ℕ) : Type 0 where
+pub record CostsSoFar (gs : List Group) (net : List Cell) (rest : List Group) (costs : List GroupCost) (number : ℕ) : Type 0 where
   pub front : List Group
   pub parts : front ++ rest ≡ gs
   pub count : number ≡ 1 + length front
@@ -84,13 +85,13 @@ CostsSoFar-start gs net bound ungrouped nameless = record {
 }
 
 -- a net of one node without a name
-pub CostsSoFar-first : (gs rest : List Group) (old net : NetView) (costs : List Cost) → rest ≡ gs → net ≡ record { cells = old.cells; group = 1 } → costs ≡ [] → IsBound old.cells → AreUngrouped old.cells → AreNameless old.cells → CostsSoFar gs net.cells rest costs 1
+pub CostsSoFar-first : (gs rest : List Group) (old net : NetView) (costs : List GroupCost) → rest ≡ gs → net ≡ record { cells = old.cells; group = 1 } → costs ≡ [] → IsBound old.cells → AreUngrouped old.cells → AreNameless old.cells → CostsSoFar gs net.cells rest costs 1
 CostsSoFar-first gs rest old net costs rest_is net_is costs_are bound ungrouped nameless =
     subst (λ (r : List Group). CostsSoFar gs net.cells r costs 1) (sym rest_is)
     (subst (λ (cells : List Cell). CostsSoFar gs cells gs costs 1) (sym (ap (λ (n : NetView). n.cells) net_is))
-    (subst (λ (cs : List Cost). CostsSoFar gs old.cells gs cs 1) (sym costs_are) (CostsSoFar-start gs old.cells bound ungrouped nameless.free)))
+    (subst (λ (cs : List GroupCost). CostsSoFar gs old.cells gs cs 1) (sym costs_are) (CostsSoFar-start gs old.cells bound ungrouped nameless.free)))
 
-module _ {gs : List Group} {net : List Cell} {rest : List Group} {costs : List Cost} {number : ℕ} (so : CostsSoFar gs net rest costs number) {g : Group} {others : List Group} (split : rest ≡ g ∷ others)
+module _ {gs : List Group} {net : List Cell} {rest : List Group} {costs : List GroupCost} {number : ℕ} (so : CostsSoFar gs net rest costs number) {g : Group} {others : List Group} (split : rest ≡ g ∷ others)
     (free : (name : Name) → (name.kind ≡ Control → ⊥) → number ≤ name.group → IsFree net name) where
   pub CostsSoFar-next : {new : NetView} (mid : NetView) (streams : Streams) (last : Stream) (added : Added) → mid ≡ record { cells = net; group = number } → IsGroupAdded g streams mid new last added
       → CostsSoFar gs new.cells others (costs ++ added.cost ∷ []) (number + 1)
@@ -170,6 +171,7 @@ module _ {gs : List Group} {net : List Cell} {rest : List Group} {costs : List C
 
       own_cost : IsCostOf g number new.cells added.cost
       own_cost = record {
+        kind = adds.kind;
         facts = adds.facts;
         has_facts = adds.has_facts;
         adders = adds.adders;
@@ -199,7 +201,7 @@ module _ {gs : List Group} {net : List Cell} {rest : List Group} {costs : List C
 
 -- ---- the end
 
-pub CostsSoFar-end : {gs rest : List Group} {net : List Cell} {costs : List Cost} {number : ℕ} → CostsSoFar gs net rest costs number → rest ≡ [] → AreApart net → HasCosts gs costs net
+pub CostsSoFar-end : {gs rest : List Group} {net : List Cell} {costs : List GroupCost} {number : ℕ} → CostsSoFar gs net rest costs number → rest ≡ [] → AreApart net → HasCosts gs costs net
 CostsSoFar-end {gs} {rest} {net} {costs} so none apart = record {
   costs_are = subst (λ (hs : List Group). AreCostsOf 1 hs costs net) (sym (append-nil so.front) ∙ ap (λ (r : List Group). so.front ++ r) (sym none) ∙ so.parts) (so.known apart);
   no_tables = record { none = so.tables apart };
@@ -207,7 +209,7 @@ CostsSoFar-end {gs} {rest} {net} {costs} so none apart = record {
 
 -- ---- the outputs change no cost
 
-pub HasCosts-outputs : {gs : List Group} {costs : List Cost} {old new : List Cell} → SameAdders old new → SameNamed old new → HasCosts gs costs old → HasCosts gs costs new
+pub HasCosts-outputs : {gs : List Group} {costs : List GroupCost} {old new : List Cell} → SameAdders old new → SameNamed old new → HasCosts gs costs old → HasCosts gs costs new
 HasCosts-outputs {gs} {costs} {old} {new} adders named has = record {
   costs_are = same_costs 1 gs costs old new (omega arith) (λ k low high. record { adders = adders.each k; windows = named.windows k; tables = named.tables k }) has.costs_are;
   no_tables = record { none = λ group. named.tables group ∙ has.no_tables.none group };

@@ -1,19 +1,18 @@
 -- How many adders, windows and tables a group has, as a net grows by other groups.
-use Rattle.std.proofs.Common.{◌≡◌, ℕ, zero, suc, ◌+◌, ◌<◌, ◌≤◌, ◌⊎◌, Bool, true, false, ◌&&◌, List, [], ◌∷◌, length, Option, None, Some, slice_get, IsSome, refl, sym, ◌∙◌, ap, subst, arith, inl, inr}
+use Rattle.std.proofs.Common.{◌≡◌, ℕ, suc, ◌+◌, ◌<◌, ◌≤◌, ◌⊎◌, Bool, true, false, ◌&&◌, List, [], ◌∷◌, length, Option, None, Some, slice_get, IsSome, refl, sym, ◌∙◌, ap, subst, arith, inl, inr}
 use Rattle.std.specs.Prelude.{nat_eq}
 use Rattle.std.proofs.lemmas.Bool.{eqb-true}
 use Rattle.std.proofs.lemmas.Option.{slice_get_within}
 use Rattle.net_graph.specs.declared.cell.Cell.{Cell}
-use Rattle.net_graph.specs.declared.cell.Item.{Item}
 use Rattle.net_graph.specs.declared.name.Name.{Name}
 use Rattle.net_graph.specs.declared.name.NameKind.{NameKind}
 use Rattle.net_graph.specs.declared.name.NameKind.TheVariants.{Control, Window, Copy, PreAdder, Register as Other, Table, Output, Valid}
 use Rattle.net_graph.specs.Cells.{NetView}
-use Rattle.net_graph.specs.Count.{total, is_adder, is_window, is_table, has_kind, one_if, adder, window, table, adders_in, windows_in, tables_in}
+use Rattle.net_graph.specs.Count.{total, is_adder, is_window, is_table, has_kind, one_if, adder, adders_in, windows_in, tables_in}
 use Rattle.net_graph.specs.Grow.{Extends, Grows}
 use Rattle.net_graph.specs.WellFormed.{IsBound, IsFree}
 use Rattle.net_graph.proofs.CellLemmas.{same_cell}
-use Rattle.pipeline_balance.specs.Numbered.{LeavesFree, name_of}
+use Rattle.pipeline_balance.specs.Numbered.{LeavesFree}
 use Rattle.stage_law.specs.Realises.{IsOwnName}
 use Rattle.chain_build.specs.GroupCosts.{AreApart}
 

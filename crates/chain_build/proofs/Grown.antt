@@ -1,5 +1,5 @@
 -- Nets that grow, and the names that stay free.
-use Rattle.std.proofs.Common.{◌≡◌, ℕ, zero, suc, ◌+◌, ◌<◌, ◌≤◌, ◌⊎◌, List, [], ◌∷◌, length, refl, sym, ◌∙◌, ap, arith, subst, inl, inr, Option, Some, None, slice_get, true, false}
+use Rattle.std.proofs.Common.{◌≡◌, ℕ, List, length, refl, sym, ◌∙◌, ap, arith, inl, inr, slice_get}
 use Rattle.std.proofs.lemmas.Bool.{cases_lt}
 use Rattle.std.proofs.lemmas.Option.{slice_get_within}
 use Rattle.net_graph.specs.declared.cell.Cell.{Cell}
@@ -7,7 +7,7 @@ use Rattle.net_graph.specs.declared.name.Name.{Name}
 use Rattle.net_graph.specs.declared.name.NameKind.{NameKind}
 use Rattle.net_graph.specs.declared.name.NameKind.TheVariants.{Control, Window, Copy, PreAdder, Register as Other, Table, Output, Valid}
 use Rattle.net_graph.specs.Cells.{NetView, cell_at}
-use Rattle.net_graph.specs.Grow.{Extends, Grows}
+use Rattle.net_graph.specs.Grow.{Grows}
 use Rattle.net_graph.specs.Name.{is_input}
 use Rattle.net_graph.specs.WellFormed.{IsFree}
 use Rattle.net_graph.proofs.CellLemmas.{cell_at-there, same_cell}

@@ -1,8 +1,6 @@
 -- The output register and its bit, call by call.
-use Rattle.std.proofs.Common.{◌≡◌, ◌⊎◌, ℕ, zero, suc, ◌+◌, ◌-◌, ◌*◌, ◌<◌, ◌≤◌, ◌^◌, List, [], ◌∷◌, length, refl, sym, ◌∙◌, ap, arith, Option, Some, None, slice_get, inl, inr, subst, ℤ, pos, ◌*ℤ◌, Bool, true, false, not, ◌&&◌}
+use Rattle.std.proofs.Common.{◌≡◌, ℕ, suc, ◌+◌, ◌*◌, ◌<◌, ◌≤◌, ◌^◌, List, length, refl, sym, ◌∙◌, ap, arith, Option, Some, None, slice_get, subst, ℤ, pos, ◌*ℤ◌, Bool, false, not, ◌&&◌}
 use Rattle.std.proofs.lemmas.Int.{ints}
-use Rattle.std.proofs.lemmas.Option.{slice_get_within}
-use Rattle.mr_values.specs.Sequence.{Sequence}
 use Rattle.mr_values.specs.Width.{FitsWidth, IsLeastWidth}
 use Rattle.net_graph.specs.declared.cell.Cell.{Cell}
 use Rattle.net_graph.specs.declared.cell.Node.{Node}
@@ -10,29 +8,25 @@ use Rattle.net_graph.specs.declared.cell.Stream.{Stream}
 use Rattle.net_graph.specs.declared.cell.Item.TheVariants.{Shl}
 use Rattle.net_graph.specs.declared.name.Name.{Name}
 use Rattle.net_graph.specs.declared.name.NameKind.{NameKind}
-use Rattle.net_graph.specs.declared.name.NameKind.TheVariants.{Control, Output, Valid}
+use Rattle.net_graph.specs.declared.name.NameKind.TheVariants.{Output, Valid}
 use Rattle.net_graph.specs.Cells.{NetView, cell_at}
 use Rattle.net_graph.specs.Name.{is_control, is_control_name, is_input}
 use Rattle.net_graph.specs.WellFormed.{IsFree}
 use Rattle.net_graph.specs.Count.{total, adder, window, table, windows_in, tables_in, is_window, is_table, has_kind, one_if}
-use Rattle.net_graph.specs.Cut.{Cut, IsCut}
-use Rattle.net_graph.specs.Run.{Values, IsRun}
 use Rattle.net_graph.specs.Grow.{Extends, Grows, Adds, IsNamedAs, named_as}
 use Rattle.net_graph.proofs.Lists.{slice_get-set_same}
 use Rattle.net_graph.proofs.CellLemmas.{cell_at-is, cell_at-there}
 use Rattle.net_graph.proofs.CountLemmas.{adders_plain, total_set}
 use Rattle.net_graph.proofs.NetLemmas.{Extends-trans, cell_of_added}
 use Rattle.net_graph.proofs.GrowLemmas.{Grows-refl, Grows-trans, Grows-named, IsOfControl-later}
-use Rattle.pipeline_balance.specs.Numbered.{IsRegister, LeavesFree, name_of}
-use Rattle.pipeline_balance.specs.Gate.{IsTickOf, IsBitOf, IsCounter, AddsGate, HasTaken, shown, IsTaken, Carries}
+use Rattle.pipeline_balance.specs.Numbered.{IsRegister, name_of}
+use Rattle.pipeline_balance.specs.Gate.{IsTickOf, IsCounter, AddsGate, HasTaken, IsTaken}
 use Rattle.pipeline_balance.specs.Costs.{SameAdders, SameNamed}
 use Rattle.pipeline_balance.specs.Tree.{AddsNode}
 use Rattle.pipeline_balance.proofs.CostLemmas.{SameAdders-refl, SameAdders-trans, SameAdders-plain, SameNamed-refl, SameNamed-trans, SameNamed-adds, nothing_more, other_kind}
 use Rattle.pipeline_balance.proofs.NumberedLemmas.{width-later, IsRegister-later, LeavesFree-refl}
 use Rattle.pipeline_balance.proofs.PairLemmas.{AddsNode-adds}
 use Rattle.pipeline_balance.proofs.TakenLemmas.{IsBitOf-later}
-use Rattle.chain_build.specs.declared.output.Outputs.{Outputs}
-use Rattle.chain_build.specs.Added.{IsGrown}
 use Rattle.chain_build.specs.Output.{IsCutTo, TakesOver, AddsOutputs}
 use Rattle.chain_build.proofs.Grown.{IsGrown-grows, IsGrown-trans}
 

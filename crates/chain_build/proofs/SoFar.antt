@@ -1,5 +1,5 @@
 -- The groups that were added so far, and those that are left.
-use Rattle.std.proofs.Common.{◌≡◌, ℕ, zero, suc, ◌+◌, ◌-◌, ◌*◌, ◌/◌, ◌%◌, ◌^◌, ◌<◌, ◌≤◌, ◌⊎◌, max, List, [], ◌∷◌, length, drop, get_or, refl, sym, ◌∙◌, ap, arith, subst, inl, inr, ℤ, pos, negsuc, ◌≤ℤ◌, None}
+use Rattle.std.proofs.Common.{◌≡◌, ℕ, ◌+◌, ◌*◌, ◌^◌, ◌<◌, ◌≤◌, ◌⊎◌, List, [], ◌∷◌, length, drop, get_or, refl, sym, ◌∙◌, ap, arith, subst, inl, inr, ℤ, pos, negsuc, ◌≤ℤ◌, None}
 use Rattle.std.specs.Prelude.{All, unsigned_abs}
 use Rattle.std.proofs.lemmas.Int.{ints}
 use Rattle.std.proofs.lemmas.List.{drop_more, drop_all}
@@ -7,7 +7,7 @@ use Rattle.mr_values.specs.declared.plan.Element.{Element}
 use Rattle.mr_values.specs.declared.plan.Plan.{Plan}
 use Rattle.mr_values.specs.Sequence.{Sequence}
 use Rattle.mr_values.specs.Value.{chain, size, IsWithinLimits}
-use Rattle.mr_values.specs.Timing.{Group, groups, after, after_all, input, last_stream, low_after, high_after, period_after, group_delay, up_factor, down_factor, Stream as Timed}
+use Rattle.mr_values.specs.Timing.{Group, groups, after, after_all, input, last_stream, low_after, high_after, period_after, up_factor, down_factor, Stream as Timed}
 use Rattle.net_graph.specs.declared.cell.Cell.{Cell}
 use Rattle.net_graph.specs.declared.cell.Stream.{Stream}
 use Rattle.net_graph.specs.declared.name.Name.{Name}
@@ -23,7 +23,7 @@ use Rattle.plan_check.specs.declared.facts.GroupFacts.{GroupFacts}
 use Rattle.plan_check.specs.Accepted.{rates_test, peaks_test, costs_test, no_tally, facts_of, group_facts, IsAccepted, AreFacts}
 use Rattle.plan_check.specs.Amounts.{gain}
 use Rattle.plan_check.specs.Costs.{Tally, tally_after}
-use Rattle.plan_check.specs.Groups.{size_of, IsGroup, IsSplit}
+use Rattle.plan_check.specs.Groups.{size_of, IsSplit}
 use Rattle.plan_laws.specs.Laws.{IsBetween}
 use Rattle.plan_laws.proofs.Passes.{passes_of}
 use Rattle.plan_laws.proofs.Reach.{apply_group, apply_groups, chain-groups}
@@ -32,11 +32,11 @@ use Rattle.stage_law.specs.Streams.{HasRoom}
 use Rattle.span_ranges.specs.Span.{IsInSpan}
 use Rattle.chain_build.specs.declared.groups.Added.{Added}
 use Rattle.chain_build.specs.Built.{IsBuiltGroup, AreBuiltGroups, ArePlainGroups}
-use Rattle.chain_build.specs.Added.{IsTaking, IsGroupAdded, IsGrown, AreNameless, CarriesChain, IsChained}
+use Rattle.chain_build.specs.Added.{IsTaking, IsGroupAdded, IsGrown, AreNameless, IsChained}
 use Rattle.chain_build.proofs.Walk.{IsWalk, factors_some, cancel, walk_rate, walk_next, walk_start, walk_most, walk_gain, walk_end, period-whole}
 use Rattle.chain_build.proofs.Spans.{in_span-group, zero-group, HasRoom-span}
 use Rattle.chain_build.proofs.Grown.{IsGrown-refl, IsGrown-grows, IsGrown-trans, free_in}
-use Rattle.chain_build.proofs.GroupFacts.{IsFactsOf, facts-is, plain-carries}
+use Rattle.chain_build.proofs.GroupFacts.{facts-is, plain-carries}
 
 -- samples of the width
 abbrev pub AreSamples : ℕ → ℕ → Sequence → Type 0

@@ -1,5 +1,5 @@
 -- The values of a stream stay in its span through a group.
-use Rattle.std.proofs.Common.{◌≡◌, ℕ, zero, suc, ◌+◌, ◌-◌, ◌*◌, ◌/◌, ◌^◌, ◌<◌, ◌≤◌, max, refl, sym, ◌∙◌, ap, arith, subst, List, [], ◌∷◌, ℤ, pos, negsuc, ◌+ℤ◌, ◌-ℤ◌, ◌*ℤ◌, ◌≤ℤ◌, Option, None, Some, Bool, true, false, cond, nat_eq}
+use Rattle.std.proofs.Common.{◌≡◌, ℕ, zero, suc, ◌+◌, ◌-◌, ◌*◌, ◌/◌, ◌^◌, ◌≤◌, max, refl, ◌∙◌, ap, arith, subst, List, [], ◌∷◌, ℤ, pos, negsuc, ◌+ℤ◌, ◌-ℤ◌, ◌*ℤ◌, ◌≤ℤ◌, Option, None, Some, Bool, true, false, cond, nat_eq}
 use Rattle.std.specs.Prelude.{unsigned_abs, unwrap_or}
 use Rattle.std.proofs.lemmas.Int.{ints}
 use Rattle.mr_values.specs.declared.plan.Mode.{Mode}
@@ -12,9 +12,9 @@ use Rattle.mr_values.specs.Timing.{Group, Fir, DownCic, UpCic, Rounding, taps_of
 use Rattle.mr_values.proofs.Zeros.{zeros, apply-zeros}
 use Rattle.plan_check.specs.Groups.{IsGroup}
 use Rattle.plan_laws.specs.Laws.{IsBetween}
-use Rattle.plan_laws.proofs.Between.{AllBetween, between-filter, between-up, between-down, between-round}
+use Rattle.plan_laws.proofs.Between.{between-filter, between-up, between-down, between-round}
 use Rattle.plan_laws.proofs.Reach.{apply_group, optional, filter_by}
-use Rattle.stage_law.specs.Streams.{AreWithin, HasRoom}
+use Rattle.stage_law.specs.Streams.{HasRoom}
 use Rattle.span_ranges.specs.Span.{IsInSpan}
 use Rattle.chain_build.specs.Built.{IsBuiltGroup}
 

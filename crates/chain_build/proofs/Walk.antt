@@ -1,21 +1,18 @@
 -- What the tests of an accepted plan say of each group: its period, its offset and how great its values are.
-use Rattle.std.proofs.Common.{◌≡◌, ℕ, zero, suc, ◌+◌, ◌-◌, ◌*◌, ◌/◌, ◌%◌, ◌^◌, ◌<◌, ◌≤◌, max, refl, sym, ◌∙◌, ap, arith, subst, List, [], ◌∷◌, ℤ, pos, negsuc, neg_ℤ, Option, None, Some, Bool, true, false, cond, eqb, leb, inl, inr, ◌⊎◌}
-use Rattle.std.specs.Prelude.{unsigned_abs, nat_le, ◌==◌}
-use Rattle.std.proofs.lemmas.Int.{ints}
-use Rattle.std.proofs.lemmas.Nat.{div-add-mod', pow_pos}
+use Rattle.std.proofs.Common.{◌≡◌, ℕ, zero, suc, ◌+◌, ◌-◌, ◌*◌, ◌/◌, ◌%◌, ◌^◌, ◌≤◌, max, refl, ◌∙◌, ap, arith, subst, List, [], ◌∷◌, None, inl, inr}
+use Rattle.std.specs.Prelude.{unsigned_abs}
+use Rattle.std.proofs.lemmas.Nat.{div-add-mod'}
 use Rattle.std.proofs.lemmas.Bool.{cases_lt}
 use Rattle.std.proofs.Math.Nat.{mul-le-mul_right}
 use Rattle.mr_values.specs.Timing.{Group, Fir, DownCic, UpCic, Rounding, Stream, input, after, up_factor, down_factor, period_after, group_delay}
 use Rattle.plan_check.specs.Groups.{size_of, last_of, first_failing, IsGroup}
-use Rattle.plan_check.specs.Amounts.{rate_test, gain, peak_after}
+use Rattle.plan_check.specs.Amounts.{rate_test, gain}
 use Rattle.plan_check.specs.Accepted.{rates_test, peaks_test, costs_test, no_tally}
-use Rattle.plan_check.specs.Costs.{Tally, tally_after, cost_test, over, terms_of, linear_test, linear_spread}
+use Rattle.plan_check.specs.Costs.{Tally, tally_after, cost_test, over}
 use Rattle.plan_check.specs.declared.fault.CostWhich.{CostWhich}
-use Rattle.plan_check.specs.declared.fault.CostWhich.TheVariants.{Terms, Latency}
-use Rattle.plan_check.specs.declared.fault.PlanFault.{PlanFault}
-use Rattle.plan_check.specs.declared.fault.PlanFault.TheVariants.{RateNotWhole, PeriodOver, Cost}
+use Rattle.plan_check.specs.declared.fault.CostWhich.TheVariants.{Latency}
 use Rattle.plan_check.proofs.Options.{none_of}
-use Rattle.plan_check.proofs.Narrow.{PeaksFit, IsNarrow, narrow_next, narrow_gain, narrow_start}
+use Rattle.plan_check.proofs.Narrow.{IsNarrow, narrow_next, narrow_gain, narrow_start}
 
 -- ---- one group
 

@@ -23,7 +23,7 @@ use Rattle.stage_law.specs.Facts.{StageFacts}
 use Rattle.stage_law.specs.Realises.{Realises}
 use Rattle.stage_law.specs.Streams.{Streams}
 use Rattle.chain_build.specs.declared.groups.Added.{Added}
-use Rattle.chain_build.specs.Built.{ArePlainGroups}
+use Rattle.chain_build.specs.Built.{ArePlainGroups, kind_of}
 
 -- what a group is as a stage
 abbrev pub HasFacts : Group → StageFacts → Type 0
@@ -38,14 +38,15 @@ pub record IsTaking (g : Group) (period : ℕ) : Type 0 where
   pub long : period ≤ 2 ^ 31 - 1
   pub whole : period * down_factor g % up_factor g ≡ 0
 
--- the group's stage was added and realises its elements, and its cost was told
+-- the group's stage was added and realises its elements, and its form and its cost were told
 pub record IsGroupAdded (g : Group) (streams : Streams) (old new : NetView) (from : Stream) (added : Added) : Type 0 where
   pub facts : StageFacts
   pub has_facts : HasFacts g facts
   pub realises : Realises facts streams old new from added.emitted
-  pub adders : added.cost.adders ≡ facts.adders
-  pub windows : added.cost.windows ≡ facts.windows
-  pub tables : added.cost.tables ≡ facts.tables
+  pub kind : added.cost.kind ≡ kind_of g
+  pub adders : added.cost.cost.adders ≡ facts.adders
+  pub windows : added.cost.cost.windows ≡ facts.windows
+  pub tables : added.cost.cost.tables ≡ facts.tables
 
 -- the new net has more nodes than the old and no other input; it is bound and its control closed where the old net's was
 pub record IsGrown (old new : List Cell) : Type 0 where

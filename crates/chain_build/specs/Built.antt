@@ -6,6 +6,8 @@ use Rattle.mr_values.specs.declared.plan.Element.TheVariants.{Up, Down, Filter, 
 use Rattle.mr_values.specs.declared.plan.Form.{Form}
 use Rattle.mr_values.specs.declared.plan.Form.TheVariants.{Parallel, Symmetric, HalfBand, Folded, Distributed}
 use Rattle.mr_values.specs.Timing.{Group, Fir, DownCic, UpCic, Rounding, form_of}
+use Rattle.stage_law.specs.declared.stage.Kind.{Kind}
+use Rattle.stage_law.specs.declared.stage.Kind.TheVariants as kind
 
 abbrev pub is_parallel : Form → Bool
 is_parallel Parallel = true
@@ -37,6 +39,23 @@ IsBuiltGroup (Rounding shift mode) = Unit {0}
 abbrev pub AreBuiltGroups : List Group → Type 0
 AreBuiltGroups [] = Unit {0}
 AreBuiltGroups (g ∷ gs) = IsBuiltGroup g × AreBuiltGroups gs
+
+-- ---- the form of a group as a stage
+
+abbrev pub form_kind : Form → Kind
+form_kind Parallel = kind.Parallel
+form_kind Symmetric = kind.Symmetric
+form_kind HalfBand = kind.HalfBand
+form_kind (Folded slots) = kind.Folded
+form_kind (Distributed group) = kind.Distributed
+
+abbrev pub kind_of : Group → Kind
+kind_of (Fir up filter down) = form_kind (form_of filter)
+kind_of (DownCic factor stages delay) = kind.CicDown
+kind_of (UpCic factor stages delay) = kind.CicUp
+kind_of (Rounding shift mode) = kind.Rounding
+
+-- ---- which groups don't round
 
 -- a group that doesn't round
 abbrev pub IsPlainGroup : Group → Type 0

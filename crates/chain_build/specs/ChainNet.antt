@@ -1,5 +1,5 @@
 -- The net of a plan.
-use Rattle.std.specs.Prelude.{◌≡◌, true, ℕ, ◌≤◌, ◌+◌, ◌*◌, ℤ, pos, List, length, Some, slice_get}
+use Rattle.std.specs.Prelude.{◌≡◌, true, ℕ, ◌≤◌, ◌*◌, ℤ, pos, List, Some, slice_get}
 use Rattle.mr_values.specs.declared.plan.Element.{Element}
 use Rattle.mr_values.specs.Sequence.{Sequence}
 use Rattle.mr_values.specs.Timing.{groups, input, last_stream, latency}

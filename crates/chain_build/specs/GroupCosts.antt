@@ -5,22 +5,24 @@ use Rattle.net_graph.specs.declared.cell.Cell.{Cell}
 use Rattle.net_graph.specs.declared.name.Name.{Name}
 use Rattle.net_graph.specs.Count.{adders_in, windows_in, tables_in}
 use Rattle.stage_law.specs.Facts.{StageFacts}
-use Rattle.stage_law.specs.declared.stage.Cost.{Cost}
 use Rattle.chain_build.specs.Added.{HasFacts}
+use Rattle.chain_build.specs.Built.{kind_of}
+use Rattle.chain_build.specs.declared.groups.GroupCost.{GroupCost}
 
--- this is the cost of the plan's group as a stage, and of the net's group of this number
-pub record IsCostOf (g : Group) (number : ℕ) (cells : List Cell) (cost : Cost) : Type 0 where
+-- this is the form of the plan's group, its cost as a stage, and that of the net's group of this number
+pub record IsCostOf (g : Group) (number : ℕ) (cells : List Cell) (cost : GroupCost) : Type 0 where
+  pub kind : cost.kind ≡ kind_of g
   pub facts : StageFacts
   pub has_facts : HasFacts g facts
-  pub adders : cost.adders ≡ facts.adders
-  pub windows : cost.windows ≡ facts.windows
-  pub tables : cost.tables ≡ facts.tables
+  pub adders : cost.cost.adders ≡ facts.adders
+  pub windows : cost.cost.windows ≡ facts.windows
+  pub tables : cost.cost.tables ≡ facts.tables
   pub adders_in : adders_in number cells ≡ facts.adders
   pub windows_in : windows_in number cells ≡ facts.windows
   pub tables_in : tables_in number cells ≡ facts.tables
 
 -- these are the costs of the groups, numbered from here
-abbrev pub AreCostsOf : ℕ → List Group → List Cost → List Cell → Type 0
+abbrev pub AreCostsOf : ℕ → List Group → List GroupCost → List Cell → Type 0
 AreCostsOf number [] [] cells = Unit {0}
 AreCostsOf number [] (c ∷ costs) cells = ⊥
 AreCostsOf number (g ∷ gs) [] cells = ⊥
@@ -39,6 +41,6 @@ pub record AreApart (cells : List Cell) : Type 0 where
   pub apart : (j k : ℕ) (cell other : Cell) (name : Name) → slice_get cells j ≡ Some cell → slice_get cells k ≡ Some other → cell.name ≡ Some name → other.name ≡ Some name → j ≡ k
 
 -- these are the costs of the groups, and there are no tables
-pub record HasCosts (gs : List Group) (costs : List Cost) (cells : List Cell) : Type 0 where
+pub record HasCosts (gs : List Group) (costs : List GroupCost) (cells : List Cell) : Type 0 where
   pub costs_are : AreCostsOf 1 gs costs cells
   pub no_tables : HasNoTables cells

@@ -8,12 +8,11 @@ ghost use Rattle.chain_build.specs.Built.{are_built, is_built, is_parallel};
 ghost use Rattle.chain_build.specs.ChainNet.{IsChainNet};
 ghost use Rattle.chain_build.specs.GroupCosts.{HasCosts};
 
-use crate::groups::add_groups;
+use crate::groups::{GroupCost, add_groups};
 use crate::output::add_outputs;
 use mr_values::{Element, Form, Memory, Plan};
 use net_graph::{Net, Netlist, Node, Stream};
 use plan_check::Facts;
-use stage_law::Cost;
 use std::alloc::Global;
 
 /// A net with its output register, the node that is shown as `out_valid`, and the cost of each group.
@@ -22,7 +21,7 @@ pub struct Built {
     pub net: Netlist,
     pub out_q: Node,
     pub out_valid: Node,
-    pub costs: Vec<Cost>,
+    pub costs: Vec<GroupCost>,
 }
 
 // Whether the form is that of one tree for each phase.
@@ -75,7 +74,7 @@ pub fn build(alloc: Global, plan: &Plan, facts: &Facts) -> Result<Built, Memory>
     requires built { are_built plan.now.elements ≡ true }
     ensures chain { IfOk result (λ b. IsChainNet (size plan.now.width) (size plan.now.ticks) plan.now.elements b.net b.out_q b.out_valid) }
 
-    // What each group costs, in adders, window registers and tables.
+    // The form of each group, and what it costs in adders, window registers and tables.
     ensures costs { IfOk result (λ b. HasCosts (groups plan.now.elements) b.costs.items b.net) }
 {
     let mut net = Net::new(alloc);

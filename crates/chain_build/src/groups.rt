@@ -22,21 +22,28 @@ use plan_check::{Facts, FirFilter, GroupFacts, PlanGroup, split_group};
 use polyphase_fir::Polyphase;
 use rounding_stage::Rounding;
 use span_ranges::SpanRanges;
-use stage_law::{Cost, Emitted, Rates, Stage};
+use stage_law::{Cost, Emitted, Kind, Rates, Stage};
 use std::alloc::Global;
+
+/// The form of a group as a stage, and what it adds to a net.
+#[derive(Clone, Copy, Debug, PartialEq, Eq)]
+pub struct GroupCost {
+    pub kind: Kind,
+    pub cost: Cost,
+}
 
 /// What a group added.
 #[derive(Drop)]
 pub(crate) struct Added {
     pub(crate) emitted: Emitted,
-    pub(crate) cost: Cost,
+    pub(crate) cost: GroupCost,
 }
 
 /// The stream after all groups, and what each group costs.
 #[derive(Drop)]
 pub(crate) struct Chained {
     pub(crate) stream: Stream,
-    pub(crate) costs: Vec<Cost>,
+    pub(crate) costs: Vec<GroupCost>,
 }
 
 // Adds the nodes of a stage.
@@ -54,14 +61,18 @@ fn emit_stage<S: Stage>(
     requires takes { S.takes stage.now from.period }
     requires room { HasRoom (IsInSpan ranges.now.low ranges.now.high) (S.facts stage.now).gain }
     ensures realises { IfOk result (λ a. Realises (S.facts stage.now) (IsInSpan ranges.now.low ranges.now.high) net.old net.new from a.emitted) }
-    ensures adders { IfOk result (λ a. a.cost.adders ≡ (S.facts stage.now).adders) }
-    ensures windows { IfOk result (λ a. a.cost.windows ≡ (S.facts stage.now).windows) }
-    ensures tables { IfOk result (λ a. a.cost.tables ≡ (S.facts stage.now).tables) }
+    ensures kind { IfOk result (λ a. a.cost.kind ≡ (S.facts stage.now).kind) }
+    ensures adders { IfOk result (λ a. a.cost.cost.adders ≡ (S.facts stage.now).adders) }
+    ensures windows { IfOk result (λ a. a.cost.cost.windows ≡ (S.facts stage.now).windows) }
+    ensures tables { IfOk result (λ a. a.cost.cost.tables ≡ (S.facts stage.now).tables) }
     ensures extends { Extends net.old.cells net.new.cells }
     ensures same_group { net.new.group ≡ net.old.group }
 {
     let emitted = stage.emit(alloc, net, from, ranges)?;
-    let cost = stage.cost();
+    let cost = GroupCost {
+        kind: stage.kind(),
+        cost: stage.cost(),
+    };
     Ok(Added { emitted, cost })
 }
 

@@ -6,6 +6,7 @@ mod groups;
 mod output;
 
 pub use chain::{Built, build, can_build};
+pub use groups::GroupCost;
 
 #[cfg(test)]
 mod tests;

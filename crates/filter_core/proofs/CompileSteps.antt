@@ -1,8 +1,16 @@
 -- The writes of `compile`.
-use Rattle.std.proofs.Common.{◌≡◌, ℕ, List, true, Result, Ok, Err, inl, inr, ap, ◌∙◌, subst}
+use Rattle.std.proofs.Common.{◌≡◌, ℕ, ◌+◌, List, [], ◌∷◌, ◌++◌, map, true, Result, Ok, Err, inl, inr, refl, sym, ap, ◌∙◌, subst}
 use Rattle.std.specs.FinMap.{insert}
-use Rattle.filter_text.specs.Headline.{IsTextOf}
-use Rattle.filter_core.specs.Report.{report_text}
+use Rattle.filter_text.specs.Written.{TellCosts, IsChainModule, IsTextWritten}
+use Rattle.filter_text.specs.declared.chain.ChainModule.{ChainModule}
+use Rattle.filter_report.specs.Report.{plan_lines, group_line, group_lines, register_line, register_lines, report_text}
+use Rattle.filter_text.proofs.CountedText.{same_counts}
+use Rattle.chain_build.specs.Built.{kind_of}
+use Rattle.mr_values.specs.Timing.{Group, groups}
+use Rattle.verilog_tree.specs.declared.tree.Signal.{Signal}
+use Rattle.verilog_tree.specs.Tree.{Design}
+use Rattle.verilog_tree.specs.View.{design_view}
+use Rattle.verilog_text.specs.Order.{unplaced, IsSameButPlaces}
 use Rattle.mr_values.specs.Files.{Files}
 use Rattle.mr_values.specs.Host.{HostState}
 use Rattle.mr_values.specs.declared.host.HostCall.TheVariants.{OpenInput, Next, OpenOutput, Put}
@@ -26,15 +34,40 @@ use Rattle.filter_core.specs.Compile.{IsBounded, AreOutputs, CompileEnds}
 bounded_by : (w t : ℕ) (elements : List Element) (facts : Facts) → All IsWithinLimits elements → AreFacts w t elements facts → IsBounded elements facts
 bounded_by w t elements facts limits are xs n = rw (are.bound_is, are.shift_is) (bound_holds elements limits xs n)
 
+-- ---- the report is that of the module that is read
+
+same_registers : (d e : Design) → IsSameButPlaces d e → (ss : List Signal) → register_lines d (map unplaced ss) ≡ register_lines e ss
+same_registers d e same [] = refl
+same_registers d e same (s ∷ ss) = rw (same.same_names, same_registers d e same ss) refl
+
+unplaced_registers : (d : Design) (ss : List Signal) → register_lines d (map unplaced ss) ≡ register_lines d ss
+unplaced_registers d [] = refl
+unplaced_registers d (s ∷ ss) = ap (λ (rest : List ℕ). register_line d s ++ rest) (unplaced_registers d ss)
+
+same_groups : (d e : Design) → IsSameButPlaces d e → (number : ℕ) (gs : List Group) → group_lines number gs d ≡ group_lines number gs e
+same_groups d e same number [] = refl
+same_groups d e same number (g ∷ gs) = λ i. group_line number (kind_of g) (same_counts d e same number i) ++ same_groups d e same (number + 1) gs i
+
+same_report : (facts : Facts) (gs : List Group) (d e : Design) → IsSameButPlaces d e → report_text facts gs d ≡ report_text facts gs e
+same_report facts gs d e same =
+    ap (λ (lines : List ℕ). plan_lines facts ++ lines ++ register_lines d d.signals) (same_groups d e same 1 gs)
+    ∙ ap (λ (lines : List ℕ). plan_lines facts ++ group_lines 1 gs e ++ lines)
+    (sym (unplaced_registers d d.signals) ∙ ap (register_lines d) same.same_signals ∙ same_registers d e same e.signals)
+
+-- these lines are the report, whatever the groups are of which the costs are told
+pub record IsReportOf (facts : Facts) (chain : ChainModule) (lines : List ℕ) : Type 0 where
+  pub told : (gs : List Group) → TellCosts 1 gs chain.costs.items (design_view chain.design) → lines ≡ report_text facts gs (design_view chain.design)
+
 -- a text and a report of a plan that is built
 pub outputs_of : (plan : List ℕ) (files : Files) (text lines : List ℕ) (accepted : AcceptedPlan) → IsAcceptedFile plan files accepted.plan → IsAcceptedPlan accepted → are_built accepted.plan.elements ≡ true
-    → IsTextOf accepted.plan.elements (size accepted.plan.width) (size accepted.plan.ticks) accepted.facts.latency accepted.facts.period text → lines ≡ report_text accepted.facts → AreOutputs plan files text lines
-outputs_of plan files text lines accepted file_is is_plan built shows is = record {
+    → (chain : ChainModule) → IsChainModule accepted.plan.elements (size accepted.plan.width) (size accepted.plan.ticks) accepted.facts.latency accepted.facts.period chain
+    → IsTextWritten text (design_view chain.design) → IsReportOf accepted.facts chain lines → AreOutputs plan files text lines
+outputs_of plan files text lines accepted file_is is_plan built chain is_chain written reported = record {
   built = record { plan = accepted.plan; accepted = file_is; built = built };
   facts = accepted.facts;
   are_facts = is_plan.are_facts;
-  shows = shows;
-  lines = is;
+  shows = record { design = written.design; reads = written.reads; only = written.only; is_module = is_chain.is_module written.design written.same };
+  lines = reported.told (groups accepted.plan.elements) is_chain.costs ∙ sym (same_report accepted.facts (groups accepted.plan.elements) written.design (design_view chain.design) written.same);
   bounded = bounded_by (size accepted.plan.width) (size accepted.plan.ticks) accepted.plan.elements accepted.facts ((passes_of accepted.plan is_plan.passes).limits.elements) is_plan.are_facts;
 }
 

@@ -15,7 +15,7 @@ use Rattle.filter_core.specs.Noble.{NobleEnds}
 use Rattle.filter_core.specs.Compile.{IsBuiltFile, IsUnbuiltFile, IsCompiled, CompileEnds}
 use Rattle.filter_core.proofs.AcceptSteps.{same_plan, accepted_isnt_refused, accepted_isnt_missing}
 
-is_built : (name : List ℕ) (files : Files) → IsBuiltFile name files → IsUnbuiltFile name files → ⊥
+pub is_built : (name : List ℕ) (files : Files) → IsBuiltFile name files → IsUnbuiltFile name files → ⊥
 is_built name files built other =
     let one = same_plan name files built.plan other.plan built.accepted.says other.accepted.says in
     let is : are_built other.plan.elements ≡ true = ap (λ (p : Plan_). are_built p.elements) (sym one) ∙ built.built in

@@ -9,6 +9,7 @@ use Rattle.filter_core.specs.declared.fault.Fault.{Fault}
 use Rattle.filter_core.specs.declared.fault.Fault.TheVariants.{HostFault, Memory, NotBuilt}
 use Rattle.mr_values.specs.declared.plan.Plan.{Plan}
 use Rattle.mr_values.specs.declared.plan.Element.{Element}
+use Rattle.mr_values.specs.Timing.{groups}
 use Rattle.mr_values.specs.Value.{size, val}
 use Rattle.plan_check.specs.declared.facts.Facts.{Facts}
 use Rattle.plan_check.specs.Accepted.{AreFacts}
@@ -16,7 +17,7 @@ use Rattle.chain_build.specs.Built.{are_built}
 use Rattle.plan_laws.specs.Laws.{plain}
 use Rattle.filter_text.specs.Headline.{IsTextOf}
 use Rattle.filter_core.specs.PlanFile.{IsAcceptedFile, IsRefusedPlan, AreReadToEnd}
-use Rattle.filter_core.specs.Report.{report_text}
+use Rattle.filter_report.specs.Report.{report_text}
 use Rattle.filter_core.specs.WholeFiles.{IsEmptied, HoldsFront, HoldsPart}
 
 -- PLAN is accepted, and its elements are built
@@ -36,14 +37,14 @@ abbrev pub IsBounded : List Element → Facts → Type 0
 IsBounded elements facts = (xs : List ℤ) (n : ℤ) → unsigned_abs (pos (2 ^ facts.shift) *ℤ val elements xs n -ℤ val (plain elements) xs n) ≤ facts.bound
 
 -- What TEXT and REPORT are to hold: a text that reads as a module which shows the plan's chain, at its latency and period, and the
--- lines of the report, which tell these and the bound: 2 ^ shift times a value is at most the bound away from the value of the chain
--- without its roundings.
+-- lines of the report, which tell these and the bound, the cost of each group in that module, and its registers: 2 ^ shift times a value
+-- is at most the bound away from the value of the chain without its roundings.
 pub record AreOutputs (plan : List ℕ) (files : Files) (text report : List ℕ) : Type 0 where
   pub built : IsBuiltFile plan files
   pub facts : Facts
   pub are_facts : AreFacts (size built.plan.width) (size built.plan.ticks) built.plan.elements facts
   pub shows : IsTextOf built.plan.elements (size built.plan.width) (size built.plan.ticks) facts.latency facts.period text
-  pub lines : report ≡ report_text facts
+  pub lines : report ≡ report_text facts (groups built.plan.elements) shows.design
   pub bounded : IsBounded built.plan.elements facts
 
 -- TEXT and REPORT hold these bytes, and no other file has changed

@@ -1,12 +1,14 @@
 pub mod Ends
 pub mod WholeFiles
+pub mod RowFiles
+pub mod RowSteps
 pub mod PlanFaults
 pub mod PlanFile
 pub mod Reading
-pub mod Report
 pub mod CommandWords
 pub mod Compile
 pub mod Noble
+pub mod Run
 pub mod Tool
 pub mod FaultWords
 pub mod FaultLines

@@ -4,34 +4,39 @@ use Rattle.mr_values.specs.Files.{Files}
 use Rattle.mr_values.specs.Host.{HostState}
 use Rattle.filter_core.specs.declared.fault.Fault.{Fault}
 use Rattle.filter_core.specs.declared.fault.Fault.TheVariants.{Usage, NotBuilt}
-use Rattle.filter_core.specs.CommandWords.{CommandWords, compile_words, noble_words}
+use Rattle.filter_core.specs.CommandWords.{CommandWords, compile_words, run_words, noble_words}
 use Rattle.mr_values.specs.declared.plan.Plan.{Plan}
 use Rattle.filter_core.specs.Ends.{IsNoFile}
 use Rattle.filter_core.specs.PlanFile.{IsAcceptedFile, IsOfPlan}
 use Rattle.filter_core.specs.Noble.{NobleEnds}
 use Rattle.filter_core.specs.Compile.{CompileEnds, IsBuiltFile}
+use Rattle.filter_core.specs.Run.{RunEnds, IsReadForRun, IsRunReady}
 
--- a file that a command reads: PLAN, or a tap file that it names
+-- a file that a command reads: PLAN, or a tap file that it names; for `run` SAMPLES too
 abbrev pub IsReadFor : CommandWords → Files → List ℕ → Type 0
 IsReadFor (compile_words plan text report) = IsOfPlan plan
+IsReadFor (run_words plan samples out) = IsReadForRun plan samples
 IsReadFor (noble_words plan out) = IsOfPlan plan
 IsReadFor _ = IsNoFile
 
 -- a command that isn't built makes no host call
 abbrev pub IsUnbuilt : CommandWords → Result (Unit {0}) Fault → HostState → HostState → Type 0
 IsUnbuilt (compile_words plan text report) result old new = Unit {0}
+IsUnbuilt (run_words plan samples out) result old new = Unit {0}
 IsUnbuilt (noble_words plan out) result old new = Unit {0}
 IsUnbuilt _ result old new = (result ≡ Err NotBuilt) × (new ≡ old)
 
 -- each command's answers, and the host after them
 abbrev pub CommandEnds : CommandWords → Result (Unit {0}) Fault → HostState → HostState → Type 0
 CommandEnds (compile_words plan text report) result old new = CompileEnds plan text report result old new
+CommandEnds (run_words plan samples out) result old new = RunEnds plan samples out result old new
 CommandEnds (noble_words plan out) result old new = NobleEnds plan out result old new
 CommandEnds _ result old new = (result ≡ Err NotBuilt) × (new ≡ old)
 
 -- the files that a command reads are there and accepted
 abbrev pub IsReady : CommandWords → Files → Type 0
 IsReady (compile_words plan text report) files = IsBuiltFile plan files
+IsReady (run_words plan samples out) files = IsRunReady plan samples files
 IsReady (noble_words plan out) files = (meaning : Plan) × IsAcceptedFile plan files meaning
 IsReady _ files = ⊥
 

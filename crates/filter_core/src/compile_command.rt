@@ -7,9 +7,9 @@ ghost use Rattle.filter_core.specs.PlanFile.{IsOfPlan};
 use crate::Fault;
 use crate::accept::read_accepted;
 use crate::files::write_file;
-use crate::report::report_text;
 use chain_build::can_build;
-use filter_text::chain_text;
+use filter_report::report_text;
+use filter_text::{chain_module, chain_text};
 use mr_values::Host;
 use std::alloc::Global;
 
@@ -31,9 +31,10 @@ pub fn compile<H: Host>(
     if !can_build(&accepted.plan) {
         return Err(Fault::NotBuilt);
     }
-    let module = chain_text(alloc, &accepted.plan, &accepted.facts)?;
-    let lines = report_text(alloc, &accepted.facts)?;
-    match write_file(host, text, &module) {
+    let module = chain_module(alloc, &accepted.plan, &accepted.facts)?;
+    let bytes = chain_text(alloc, &module)?;
+    let lines = report_text(alloc, &accepted.facts, &module)?;
+    match write_file(host, text, &bytes) {
         Ok(()) => write_file(host, report, &lines),
         Err(fault) => Err(fault),
     }

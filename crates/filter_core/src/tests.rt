@@ -80,3 +80,25 @@ fn rewrites_a_plan(rt: HostRuntime) -> Result<(), Fail> {
     );
     Ok(())
 }
+
+// Samples, the values of the chain that belong to them, and the status. A line that is refused comes after two ticks for each sample
+// before it, and value n stands at the tick 4 + n.
+#[test]
+fn runs_samples(rt: HostRuntime) -> Result<(), Fail> {
+    let alloc = rt.alloc();
+    let plan =
+        b"version = 1\nwidth = 8\nticks = 2\n[[element]]\nkind = \"up\"\nfactor = 2\n[[element]]\nkind = \"filter\"\ntaps_file = \"two\"\n";
+    for (samples, out, status) in [
+        ("1\n10", "1\n2\n13\n20\n", 0),
+        ("# none\n", "", 0),
+        ("1\n10\n\n0\n128\n5\n", "1\n2\n", 31),
+    ] {
+        let mut host = host_with(alloc, plan, b"1, 2, 3")?;
+        host.add_file("samples", samples.as_bytes())?;
+        host.set_piece(3);
+        let outcome = filter_tool(alloc, &words(alloc, "run plan samples out")?, &mut host);
+        assert_eq!(rt; outcome.status, status);
+        assert_eq!(rt; host.file("out"), Some(out.as_bytes()));
+    }
+    Ok(())
+}

@@ -1,7 +1,7 @@
 // The top call.
 ghost use Rattle.std.specs.Prelude.{◌≡◌, ℕ, List, ◌↔◌, ◌≢◌, Err, IsOkUnless, map, IsTrue, string_bytes, Some, None};
 ghost use Rattle.mr_values.specs.Faults.{IsRisen};
-ghost use Rattle.filter_core.specs.CommandWords.{CommandWords, compile_words, words_of, command_of};
+ghost use Rattle.filter_core.specs.CommandWords.{CommandWords, AreApart, compile_words, words_of, command_of};
 ghost use Rattle.filter_core.specs.Compile.{IsCompiled};
 ghost use Rattle.filter_core.specs.Ends.{EndsWith, call_of};
 ghost use Rattle.filter_core.specs.Statuses.{status_of};
@@ -10,6 +10,7 @@ ghost use Rattle.filter_core.specs.Tool.{CommandEnds, ToolEnds, IsUnbuilt, IsUnb
 use crate::Fault;
 use crate::compile_command::compile;
 use crate::noble_command::noble;
+use crate::run_command::run_plan;
 use crate::status::status_of;
 use crate::words::{Command, read_words};
 use mr_values::Host;
@@ -61,6 +62,7 @@ pub fn filter_tool<H: Host>(alloc: Global, words: &[String], host: &mut H) -> Ou
 }
 
 fn run<H: Host>(alloc: Global, command: Command<'_>, host: &mut H) -> Result<(), Fault>
+    requires { AreApart (words_of command) }
     ensures headline { (plan text report : List ℕ) → words_of command.entry ≡ compile_words plan text report → IsTrue (H.state host.old).tells → result ≡ Ok tt
         → IsCompiled plan text report (H.state host.old) (H.state host.new) }
     ensures cause { EndsWith (IsReadFor (words_of command.entry)) (call_of result) (H.state host.old) (H.state host.new) }
@@ -72,7 +74,7 @@ fn run<H: Host>(alloc: Global, command: Command<'_>, host: &mut H) -> Result<(),
 {
     match command {
         Command::Compile { plan, text, report } => compile(alloc, plan, text, report, host),
-        Command::Run { .. } => Err(Fault::NotBuilt),
+        Command::Run { plan, samples, out } => run_plan(alloc, plan, samples, out, host),
         Command::Sim { .. } => Err(Fault::NotBuilt),
         Command::Order { .. } => Err(Fault::NotBuilt),
         Command::Extreme { .. } => Err(Fault::NotBuilt),

@@ -28,6 +28,7 @@ use Rattle.module_laws.proofs.Places.{same_shapes, same_circuits, same_ports}
 use Rattle.filter_text.specs.Headline.{outputs_within, samples_in, IsRunFrom, ShowsChain}
 use Rattle.filter_text.proofs.ChainOutputs.{all_outputs}
 use Rattle.filter_text.proofs.ChainPlaces.{output_is, valid_is, input_width}
+use Rattle.filter_text.proofs.ReadModules.{input_port}
 
 -- ---- samples
 
@@ -114,6 +115,7 @@ module _ {width ticks : ℕ} {elements : List Element} {cells : List Cell} {out_
 
     pub chain_shows : ShowsChain elements width ticks (latency width ticks elements) (last_stream width ticks elements).period d
     chain_shows = record {
+      takes = input_port cells d same ∙ input_width net;
       parts = λ content before after reset settled r.
           rw (same_shapes d (written_module cells) same, same_ports d (written_module cells) same) (shows.parts content before after reset settled (of_written content before after reset settled r));
       shows = λ content before after reset settled r.

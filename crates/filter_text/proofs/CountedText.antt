@@ -17,14 +17,15 @@ use Rattle.net_module.specs.Written.{written_module}
 use Rattle.net_text.specs.Small.{AreSmall}
 use Rattle.module_costs.specs.Counting.{HasPlainTables, CountsAs}
 use Rattle.module_costs.proofs.Sums.{counts_as}
-use Rattle.stage_law.specs.declared.stage.Cost.{Cost}
+use Rattle.chain_build.specs.declared.groups.GroupCost.{GroupCost}
 use Rattle.verilog_tree.specs.declared.tree.Signal.{Signal}
 use Rattle.verilog_tree.specs.Tree.{Design}
 use Rattle.verilog_tree.specs.Names.{text_of, is_window, is_table as is_table_name}
-use Rattle.verilog_tree.specs.Counted.{counted, is_reg, is_wire, adders_of, in_group}
+use Rattle.verilog_tree.specs.Counted.{Counts, counted, is_reg, is_wire, adders_of, in_group}
 use Rattle.verilog_text.specs.Order.{IsSameButPlaces, unplaced}
 use Rattle.chain_build.specs.GroupCosts.{AreCostsOf, HasCosts}
 use Rattle.filter_text.specs.Headline.{AreCounted}
+use Rattle.filter_text.specs.Written.{TellCosts}
 
 -- ---- no table
 
@@ -52,7 +53,7 @@ same_any test same [] = refl
 same_any test same (s ∷ ss) =
     sum_by-cons _ (unplaced s) (map unplaced ss) ∙ (λ i. cond (same s i) 1 0 + same_any test same ss i) ∙ sym (sum_by-cons _ s ss)
 
-same_counts : (d e : Design) → IsSameButPlaces d e → (group : ℕ) → counted d group ≡ counted e group
+pub same_counts : (d e : Design) → IsSameButPlaces d e → (group : ℕ) → counted d group ≡ counted e group
 same_counts d e same group i = record {
   adders = same_adders i;
   windows = same_windows i;
@@ -104,7 +105,7 @@ few_groups (Round shift mode ∷ es) = omega (arith, few_groups es)
 -- ---- the groups of a plan
 
 module _ (cells : List Cell) (counts : CountsAs cells) (d : Design) (same : IsSameButPlaces d (written_module cells)) where
-  are_counted : (number : ℕ) (gs : List Group) (costs : List Cost) → 1 ≤ number → number + length gs < 2 ^ 64 → AreCostsOf number gs costs cells → AreCounted number gs d
+  are_counted : (number : ℕ) (gs : List Group) (costs : List GroupCost) → 1 ≤ number → number + length gs < 2 ^ 64 → AreCostsOf number gs costs cells → AreCounted number gs d
   are_counted number [] costs some low are = tt
   are_counted number (g ∷ gs) [] some low are = absurd are
   are_counted number (g ∷ gs) (c ∷ costs) some low are = (
@@ -117,6 +118,27 @@ module _ (cells : List Cell) (counts : CountsAs cells) (d : Design) (same : IsSa
     are_counted (number + 1) gs costs (omega arith) (omega (arith, low)) are.1,
   )
 
-pub chain_counted : (es : List Element) (costs : List Cost) (cells : List Cell) → length es ≤ 32 → IsNetlist cells → AreSmall cells → HasCosts (groups es) costs cells → (d : Design) → IsSameButPlaces d (written_module cells) → AreCounted 1 (groups es) d
+module _ (cells : List Cell) (counts : CountsAs cells) where
+  tell_costs : (number : ℕ) (gs : List Group) (costs : List GroupCost) → 1 ≤ number → number + length gs < 2 ^ 64 → AreCostsOf number gs costs cells → TellCosts number gs costs (written_module cells)
+  tell_costs number [] [] some low are = tt
+  tell_costs number [] (c ∷ costs) some low are = are
+  tell_costs number (g ∷ gs) [] some low are = are
+  tell_costs number (g ∷ gs) (c ∷ costs) some low are =
+      let same = counts.each number some (omega (arith, low)) in (
+        are.0.kind,
+        record {
+          adders = are.0.adders ∙ sym are.0.adders_in ∙ sym (ap (λ (n : Counts). n.adders) same);
+          windows = are.0.windows ∙ sym are.0.windows_in ∙ sym (ap (λ (n : Counts). n.windows) same);
+          tables = are.0.tables ∙ sym are.0.tables_in ∙ sym (ap (λ (n : Counts). n.tables) same);
+        },
+        tell_costs (number + 1) gs costs (omega arith) (omega (arith, low)) are.1,
+      )
+
+pub chain_counted : (es : List Element) (costs : List GroupCost) (cells : List Cell) → length es ≤ 32 → IsNetlist cells → AreSmall cells → HasCosts (groups es) costs cells → (d : Design) → IsSameButPlaces d (written_module cells) → AreCounted 1 (groups es) d
 chain_counted es costs cells few netlist small has d same =
     are_counted cells (counts_as cells netlist small (plain_tables cells has.no_tables.none)) d same 1 (groups es) costs (omega arith) (let g = few_groups es in omega (arith, g, few)) has.costs_are
+
+-- what is told of the groups is what the module that is written costs
+pub chain_costs : (es : List Element) (costs : List GroupCost) (cells : List Cell) → length es ≤ 32 → IsNetlist cells → AreSmall cells → HasCosts (groups es) costs cells → TellCosts 1 (groups es) costs (written_module cells)
+chain_costs es costs cells few netlist small has =
+    tell_costs cells (counts_as cells netlist small (plain_tables cells has.no_tables.none)) 1 (groups es) costs (omega arith) (let g = few_groups es in omega (arith, g, few)) has.costs_are

@@ -3,7 +3,7 @@ use Rattle.std.proofs.Common.{◌≡◌, List, ap, ◌∙◌}
 use Rattle.net_graph.specs.declared.cell.Cell.{Cell}
 use Rattle.net_graph.specs.Cells.{cell_at}
 use Rattle.net_graph.specs.WellFormed.{IsNetlist}
-use Rattle.net_module.specs.Written.{IsWritable, written_module, output_place}
+use Rattle.net_module.specs.Written.{IsWritable, written_module, input_place, output_place}
 use Rattle.net_module.proofs.PassesDrivers.{passes}
 use Rattle.verilog_tree.specs.Checks.{Passes}
 use Rattle.verilog_tree.specs.Names.{shapes_of}
@@ -30,3 +30,9 @@ pub output_width : (cells : List Cell) (d : Design) → IsSameButPlaces d (writt
 output_width cells d same =
     ap (λ (s : Shapes). s.width (ports_of d).out_data) (same_shapes d (written_module cells) same)
     ∙ ap (λ (p : Ports). (shapes_of (written_module cells)).width p.out_data) (same_ports d (written_module cells) same)
+
+-- its input is as wide as the net's
+pub input_port : (cells : List Cell) (d : Design) → IsSameButPlaces d (written_module cells) → (shapes_of d).width (ports_of d).in_data ≡ (cell_at cells (input_place cells)).width
+input_port cells d same =
+    ap (λ (s : Shapes). s.width (ports_of d).in_data) (same_shapes d (written_module cells) same)
+    ∙ ap (λ (p : Ports). (shapes_of (written_module cells)).width p.in_data) (same_ports d (written_module cells) same)

@@ -47,10 +47,11 @@ events_before d before settled = events_of (shapes_of d) (ports_of d) before set
 abbrev pub events_after : Design → List Cycle → List Cycle → List Values → List Event
 events_after d before after settled = events_of (shapes_of d) (ports_of d) after (drop (length before + 1) settled) (length before + 1) 0
 
--- For every content of the registers and every list of cycles with a reset, whatever the samples and clock enables: what is shown after
--- the last reset cycle is exactly value n of the chain over the samples since then, at the tick latency + n * period, for each n whose
--- tick has come, and nothing at any other tick.
+-- `in_data` has as many bits as a sample. For every content of the registers and every list of cycles with a reset, whatever the samples
+-- and clock enables: what is shown after the last reset cycle is exactly value n of the chain over the samples since then, at the tick
+-- latency + n * period, for each n whose tick has come, and nothing at any other tick.
 pub record ShowsChain (elements : List Element) (width ticks latency period : ℕ) (d : Design) : Type 0 where
+  pub takes : (shapes_of d).width (ports_of d).in_data ≡ width
   pub parts : (content : Values) (before after : List Cycle) (reset : Cycle) (settled : List Values) → IsRunFrom d width content before after reset settled
       → events_of (shapes_of d) (ports_of d) (before ++ reset ∷ after) settled 0 0 ≡ events_before d before settled ++ events_after d before after settled
   pub shows : (content : Values) (before after : List Cycle) (reset : Cycle) (settled : List Values) → IsRunFrom d width content before after reset settled
@@ -83,13 +84,10 @@ abbrev pub AreCounted : ℕ → List Group → Design → Type 0
 AreCounted number [] d = Unit {0}
 AreCounted number (g ∷ gs) d = IsCounted g number d × AreCounted (number + 1) gs d
 
--- the bytes read as one module, it passes every check, from any content it runs over any cycles, cut and uncut, its output has the least
--- width for the span of the last stream, it shows the chain, and its groups cost what they cost as stages; where no group rounds, its
--- output register is never cut
-pub record IsTextOf (elements : List Element) (width ticks latency period : ℕ) (bytes : List ℕ) : Type 0 where
-  pub design : Design
-  pub reads : Reads bytes design
-  pub only : (other : Design) → Reads bytes other → other ≡ design
+-- the module passes every check, from any content it runs over any cycles, cut and uncut, its output has the least width for the span of
+-- the last stream, it shows the chain, and its groups cost what they cost as stages; where no group rounds, its output register is never
+-- cut
+pub record IsModuleOf (elements : List Element) (width ticks latency period : ℕ) (design : Design) : Type 0 where
   pub passes : Passes design
   pub runs : HasRuns design
   pub one_uncut : HasOneUncutRun design
@@ -97,3 +95,10 @@ pub record IsTextOf (elements : List Element) (width ticks latency period : ℕ)
   pub shows : ShowsChain elements width ticks latency period design
   pub uncut : ArePlainGroups (groups elements) → KeepsOutput elements width ticks latency period design
   pub costs : AreCounted 1 (groups elements) design
+
+-- the bytes read as one module, which is that of the chain
+pub record IsTextOf (elements : List Element) (width ticks latency period : ℕ) (bytes : List ℕ) : Type 0 where
+  pub design : Design
+  pub reads : Reads bytes design
+  pub only : (other : Design) → Reads bytes other → other ≡ design
+  pub is_module : IsModuleOf elements width ticks latency period design

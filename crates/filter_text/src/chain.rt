@@ -1,28 +1,52 @@
-// The text of a plan.
+// The module of a plan, and its text.
 ghost use Rattle.std.specs.Prelude.{◌≡◌, true, IfOk};
 ghost use Rattle.mr_values.specs.Value.{size};
 ghost use Rattle.plan_check.specs.Accepted.{IsAccepted, AreFacts};
 ghost use Rattle.chain_build.specs.Built.{are_built};
-ghost use Rattle.filter_text.specs.Headline.{IsTextOf};
+ghost use Rattle.verilog_tree.specs.View.{design_view};
+ghost use Rattle.verilog_text.specs.Grammar.{limits};
+ghost use Rattle.verilog_text.specs.Shortest.{IsWritable};
+ghost use Rattle.verilog_text.specs.Order.{IsInOrder};
+ghost use Rattle.filter_text.specs.Written.{IsChainModule, IsTextWritten};
 
 use crate::small::nets_are_small;
-use chain_build::build;
+use chain_build::{GroupCost, build};
 use mr_values::{Memory, Plan};
 use net_module::module_of;
 use plan_check::Facts;
 use std::alloc::Global;
+use verilog_tree::Module;
 use verilog_write::text_of;
 
-/// The Verilog text of an accepted plan, of which these are the facts: what it shows stands at the ticks latency + n * period. Fails
-/// only for want of memory.
-pub fn chain_text(alloc: Global, plan: &Plan, facts: &Facts) -> Result<Vec<u8>, Memory>
+/// The module of a plan, and what each of its groups costs.
+#[derive(Drop)]
+pub struct ChainModule {
+    pub design: Module,
+    pub costs: Vec<GroupCost>,
+}
+
+/// The module of an accepted plan, of which these are the facts: what it shows stands at the ticks latency + n * period. Fails only
+/// for want of memory.
+pub fn chain_module(alloc: Global, plan: &Plan, facts: &Facts) -> Result<ChainModule, Memory>
     requires accepted { IsAccepted plan.now }
     requires are_facts { AreFacts (size plan.now.width) (size plan.now.ticks) plan.now.elements facts.now }
     requires built { are_built plan.now.elements ≡ true }
-    ensures { IfOk result (λ text. IsTextOf plan.now.elements (size plan.now.width) (size plan.now.ticks) facts.now.latency facts.now.period text.items) }
+    ensures { IfOk result (IsChainModule plan.now.elements (size plan.now.width) (size plan.now.ticks) facts.now.latency facts.now.period) }
 {
     let built = build(alloc, plan, facts)?;
     nets_are_small(&built.net);
-    let module = module_of(alloc, &built.net)?;
-    text_of(alloc, &module)
+    let design = module_of(alloc, &built.net)?;
+    Ok(ChainModule {
+        design,
+        costs: built.costs,
+    })
+}
+
+/// The Verilog text of a plan's module. Fails only for want of memory.
+pub fn chain_text(alloc: Global, chain: &ChainModule) -> Result<Vec<u8>, Memory>
+    requires writable { IsWritable limits (design_view chain.now.design) }
+    requires in_order { IsInOrder (design_view chain.now.design) }
+    ensures { IfOk result (λ text. IsTextWritten text.items (design_view chain.now.design)) }
+{
+    text_of(alloc, &chain.design)
 }

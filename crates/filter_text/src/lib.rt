@@ -4,4 +4,4 @@
 mod chain;
 mod small;
 
-pub use chain::chain_text;
+pub use chain::{ChainModule, chain_module, chain_text};

@@ -83,7 +83,7 @@ target_used P (b ∷ assigns) rest all (suc k) a at = target_used P assigns rest
 -- ---- names by their texts
 
 -- among different names each is the first with its text
-first_with_text : (names : List (List ℕ)) (n : ℕ) → AreDistinct names → n < length names → position_or_len (bytes_eq (name_in names n)) names ≡ n
+pub first_with_text : (names : List (List ℕ)) (n : ℕ) → AreDistinct names → n < length names → position_or_len (bytes_eq (name_in names n)) names ≡ n
 first_with_text [] n distinct h = absurd (omega arith)
 first_with_text (name ∷ names) zero distinct h =
     ap (λ (b : Bool). cond (not b) (1 + position_or_len (bytes_eq name) names) 0) ((bytes_eq-Decides name name).1 refl)

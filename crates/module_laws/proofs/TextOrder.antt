@@ -35,7 +35,7 @@ module _ (P : Signal → Type 0) where
       by true rest every = (every.0, every.1)
       by false rest every = let r = rest every.1 in (r.0, (every.0, r.1))
 
-  to_order : (ss : List Signal) → Every P ss → Every P (in_text_order ss)
+  pub to_order : (ss : List Signal) → Every P ss → Every P (in_text_order ss)
   to_order [] all = tt
   to_order (s ∷ ss) all = with_one s (in_text_order ss) all.0 (to_order ss all.1)
 
@@ -54,7 +54,7 @@ module _ {A : Type 0} (test : A → Bool) where
       by true e found rest = absurd (grind arith)
       by false e found rest = (e, rest found)
 
-  finds_nothing : (xs : List A) → Every (λ x. test x ≡ false) xs → find test xs ≡ None
+  pub finds_nothing : (xs : List A) → Every (λ x. test x ≡ false) xs → find test xs ≡ None
   finds_nothing [] all = refl
   finds_nothing (x ∷ xs) all = ap (λ (b : Bool). cond b (Some x) (find test xs)) all.0 ∙ finds_nothing xs all.1
 
@@ -125,14 +125,14 @@ both : {A : Type 0} (P Q : A → Type 0) (xs : List A) → Every P xs → Every 
 both P Q [] p q = tt
 both P Q (x ∷ xs) p q = ((p.0, q.0), both P Q xs p.1 q.1)
 
-repeats_none : (seen : List ℕ) (ss : List Signal) → AllApart ss → Every (IsUnseen seen) ss → first_repeat seen (map (λ (s : Signal). s.name) ss) ≡ None
+pub repeats_none : (seen : List ℕ) (ss : List Signal) → AllApart ss → Every (IsUnseen seen) ss → first_repeat seen (map (λ (s : Signal). s.name) ss) ≡ None
 repeats_none seen [] apart unseen = refl
 repeats_none seen (s ∷ ss) apart unseen =
     ap (λ (b : Bool). or_else (cond b (Some s.name) None) (first_repeat (s.name ∷ seen) (map (λ (s : Signal). s.name) ss))) unseen.0
     ∙ repeats_none (s.name ∷ seen) ss apart.1
     (every_map (λ t. IsApart s t × IsUnseen seen t) (IsUnseen (s.name ∷ seen)) (λ t h. unseen_more s t seen h.0 h.1) ss (both (IsApart s) (IsUnseen seen) ss apart.0 unseen.1))
 
-none_seen : (ss : List Signal) → Every (IsUnseen []) ss
+pub none_seen : (ss : List Signal) → Every (IsUnseen []) ss
 none_seen [] = tt
 none_seen (s ∷ ss) = (refl, none_seen ss)
 
@@ -155,7 +155,7 @@ apart_without s (t ∷ ts) all = by (nat_le s.place t.place) (apart_without s ts
         let its = without_one (IsApart t) s ts every.0 in
         (((λ e. its.0 (sym e)), r.0), (its.1, r.1))
 
-apart_to : (ss : List Signal) → AllApart ss → AllApart (in_text_order ss)
+pub apart_to : (ss : List Signal) → AllApart ss → AllApart (in_text_order ss)
 apart_to [] all = tt
 apart_to (s ∷ ss) all = apart_with s (in_text_order ss) (to_order (IsApart s) ss all.0) (apart_to ss all.1)
 

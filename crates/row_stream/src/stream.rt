@@ -46,6 +46,7 @@ pub trait RowStream {
         ensures some { 0 < length piece.now → IfOk result (λ taken. due self.new < due self.old + taken * 2 ^ 17) }
 
         // So the bytes of a file that isn't refused are bounded.
+        ensures same { IfOk result (λ taken. taken ≡ 0 → most self.new ≡ most self.old) }
         ensures bytes { IfOk result (λ taken. most self.old + taken ≤ most self.new) }
         ensures bound { IfOk result (λ taken. 0 < taken → most self.new ≤ 2 ^ 45) };
 

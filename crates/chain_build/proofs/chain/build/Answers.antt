@@ -1,4 +1,4 @@
-use Rattle.std.proofs.Common.{◌≡◌, ◌≤◌, subst, sym, List, ℕ, ℤ, rules}
+use Rattle.std.proofs.Common.{◌≤◌, subst, sym, List, ℕ, ℤ, rules}
 use Rattle.std.proofs.lemmas.Int.{to_z-of_z}
 use mir.Syntax.{w128}
 use mir.Val.{SFits}
@@ -6,7 +6,6 @@ use Rattle.mr_values.specs.Timing.{groups, last_stream}
 use Rattle.mr_values.specs.Value.{size}
 use Rattle.net_graph.specs.declared.cell.Cell.{Cell}
 use Rattle.net_graph.specs.declared.cell.Item.TheVariants.{Input}
-use Rattle.net_graph.specs.declared.cell.Stream.{Stream}
 use Rattle.net_graph.specs.Cells.{NetView}
 use Rattle.net_graph.specs.Grow.{Adds}
 use Rattle.net_graph.specs.WellFormed.{IsNetlist}
@@ -15,7 +14,7 @@ use Rattle.chain_build.specs.Added.{IsChained}
 use Rattle.chain_build.specs.ChainNet.{IsChainNet}
 use Rattle.chain_build.specs.GroupCosts.{HasCosts}
 use Rattle.chain_build.specs.Output.{AddsOutputs}
-use Rattle.chain_build.proofs.ChainLemmas.{empty, nameless, bound1, ungrouped1, built-groups, bound3, chain_net, chain_costs}
+use Rattle.chain_build.proofs.ChainLemmas.{empty, built-groups, bound3, chain_net, chain_costs}
 use Rattle.chain_build.proofs.SoFar.{some_width}
 use Rattle.chain_build.proofs.chain.build.Goals as goal
 

@@ -1,7 +1,7 @@
-use Rattle.std.proofs.Common.{◌≡◌, ◌<◌, ℕ, length, refl, sym, ◌∙◌, ap, subst, rules, List, get_or, arith, inl, ◌+◌}
+use Rattle.std.proofs.Common.{sym, ap, subst, List, get_or, arith, inl, ◌+◌}
 use Rattle.plan_check.specs.declared.facts.GroupFacts.{GroupFacts}
 use Rattle.mr_values.specs.Timing.{groups}
-use Rattle.stage_law.specs.declared.stage.Cost.{Cost}
+use Rattle.chain_build.specs.declared.groups.GroupCost.{GroupCost}
 use Rattle.chain_build.proofs.CostsSoFar.{CostsSoFar, CostsSoFar-first, CostsSoFar-next, CostsSoFar-end}
 use Rattle.chain_build.proofs.SoFar.{SoFar-plan, SoFar-next, SoFar-end, SoFar-none, no_facts, so_at, so_none, so_all, unused, taking, room_in, below, above}
 use Rattle.chain_build.proofs.groups.add_groups.Goals as goal
@@ -33,7 +33,7 @@ add_group-requires-clause-room c = room_in (so_at c.args.facts.now.groups.items 
 pub loop-fact-preserved : goal.loop-fact-preserved
 loop-fact-preserved c = (
   SoFar-next (so_at c.args.facts.now.groups.items c.loop-fact.fact-index c.loop-fact.invariant.0 _ _ (omega (arith, c.deref-fact-items.ensures.len)) (ap (λ (xs : List GroupFacts). get_or xs c.loop-fact.fact-index _) c.deref-fact-items.ensures.value)) c.in-Some.ensures c.set_group-in-loop-fact.new.self c.in_ok-added.added _ _ c.ranges_before-ranges.ensures.low c.ranges_before-ranges.ensures.high c.set_group-in-loop-fact.ensures c.in_ok-added.ensures.ok,
-  subst (λ (costs : List Cost). CostsSoFar (groups c.args.plan.now.elements) c.add_group.new.net.cells (groups c.in-Some.others.now) costs (c.loop-fact.number + 1)) (sym c.in_ok-push.ensures.items)
+  subst (λ (costs : List GroupCost). CostsSoFar (groups c.args.plan.now.elements) c.add_group.new.net.cells (groups c.in-Some.others.now) costs (c.loop-fact.number + 1)) (sym c.in_ok-push.ensures.items)
       (CostsSoFar-next c.loop-fact.invariant.1 c.in-Some.ensures.parts (λ name data_kind more. c.loop-fact.invariant.0.names name data_kind (inl more)) c.set_group-in-loop-fact.new.self _ c.loop-fact.last c.in_ok-added.added c.set_group-in-loop-fact.ensures c.in_ok-added.ensures.ok),
 )
 

@@ -1,4 +1,3 @@
-use Rattle.std.proofs.Common.{◌≡◌}
 use Rattle.std.proofs.lemmas.Int.{to_z-of_z}
 use Rattle.chain_build.proofs.OutputLemmas.{output_free, valid_free, counter_nameless, AddsOutputs-named}
 use Rattle.chain_build.proofs.output.add_outputs.Goals as goal

@@ -1,6 +1,5 @@
-use Rattle.std.proofs.Common.{◌≡◌, sym, ◌∙◌, ap}
 use Rattle.net_graph.proofs.NetLemmas.{Extends-adds}
-use Rattle.chain_build.proofs.OutputLemmas.{IsCutTo-same, IsCutTo-shl}
+use Rattle.chain_build.proofs.OutputLemmas.{IsCutTo-shl}
 use Rattle.chain_build.proofs.output.cut_to.Goals as goal
 
 pub returns-clause-ok : goal.returns-clause-ok

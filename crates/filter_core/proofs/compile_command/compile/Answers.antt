@@ -16,10 +16,10 @@ returns-in-Ok-clause-told g c = λ told.
     let written = c.in-Ok.ensures.told told' in
     let last = c.write_file-in-Ok.ensures.told told'' in
     let ended = read_to_end c.args.plan.now old read new reading.ended (last.input ∙ written.input) (last.place ∙ written.place) in
-    let text = c.in_ok-module.module.items in
+    let text = c.in_ok-bytes.bytes.items in
     let lines = c.in_ok-lines.lines.items in
     let built : are_built c.in_ok-accepted.accepted.plan.elements ≡ true = search rules in
-    let outputs = outputs_of c.args.plan.now old.files text lines c.in_ok-accepted.accepted reading.answer c.in_ok-accepted.ensures.accepted built c.in_ok-module.ensures c.in_ok-lines.ensures in
+    let outputs = outputs_of c.args.plan.now old.files text lines c.in_ok-accepted.accepted reading.answer c.in_ok-accepted.ensures.accepted built c.in_ok-module.module c.in_ok-module.ensures c.in_ok-bytes.ensures (record { told = c.in_ok-lines.ensures }) in
     last_write c.args.plan.now c.args.text.now c.args.report.now text lines c.write_file-in-Ok.result old middle new outputs
     ended
     (written.answer ∙ rw (reading.files, c.deref.ensures.value) refl)
@@ -32,10 +32,10 @@ returns-clause-told g c = λ told.
     let new = g.H.Host.state c.write_file.new.host in
     let reading = c.in_ok-accepted.ensures.told told in
     let told' = c.in_ok-accepted.ensures.cause.same_kind ∙ told in
-    let text = c.in_ok-module.module.items in
+    let text = c.in_ok-bytes.bytes.items in
     let lines = c.in_ok-lines.lines.items in
     let built : are_built c.in_ok-accepted.accepted.plan.elements ≡ true = search rules in
-    let outputs = outputs_of c.args.plan.now old.files text lines c.in_ok-accepted.accepted reading.answer c.in_ok-accepted.ensures.accepted built c.in_ok-module.ensures c.in_ok-lines.ensures in
+    let outputs = outputs_of c.args.plan.now old.files text lines c.in_ok-accepted.accepted reading.answer c.in_ok-accepted.ensures.accepted built c.in_ok-module.module c.in_ok-module.ensures c.in_ok-bytes.ensures (record { told = c.in_ok-lines.ensures }) in
     first_write c.args.plan.now c.args.text.now c.args.report.now text lines c.in-Err.fault old read new outputs
     reading.files
     (subst (λ bytes. WriteAnswer c.args.text.now bytes (Err c.in-Err.fault) read.files new.files) c.deref.ensures.value (c.in-Err.ensures.told told').answer)

@@ -2,6 +2,7 @@ use Rattle.std.proofs.Common.{subst}
 use Rattle.filter_core.specs.CommandWords.{words_of}
 use Rattle.filter_core.specs.Tool.{IsReady}
 use Rattle.filter_core.proofs.Completeness.{compile-complete, noble-complete}
+use Rattle.filter_core.proofs.RunSteps.{run-complete}
 use Rattle.filter_core.proofs.tool.run.Goals as goal
 
 pub returns-in-Compile-clause-complete : goal.returns-in-Compile-clause-complete
@@ -17,3 +18,10 @@ returns-in-Noble-clause-complete g c = λ told ready unstruck.
     let new = g.H.Host.state c.noble.new.host in
     let accepted = subst (λ command. IsReady (words_of command) old.files) c.in-Noble.is ready in
     noble-complete c.in-Noble.plan.now c.in-Noble.out.now c.noble.result old new (c.noble.ensures.cause.struck told) (c.noble.ensures.told told) accepted.0 accepted.1 unstruck
+
+pub returns-in-Run-clause-complete : goal.returns-in-Run-clause-complete
+returns-in-Run-clause-complete g c = λ told ready unstruck.
+    let old = g.H.Host.state c.args.host.now in
+    let new = g.H.Host.state c.run_plan.new.host in
+    let accepted = subst (λ command. IsReady (words_of command) old.files) c.in-Run.is ready in
+    run-complete c.in-Run.plan.now c.in-Run.samples.now c.in-Run.out.now c.run_plan.result old new (c.run_plan.ensures.cause.struck told) (c.run_plan.ensures.told told) accepted unstruck

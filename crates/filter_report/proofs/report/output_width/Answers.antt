@@ -3,7 +3,7 @@ use Rattle.std.proofs.lemmas.Int.{to_z-of_z}
 use mir.Syntax.{w128}
 use mir.Val.{SFits}
 use Rattle.plan_check.proofs.LeastBits.{wide_least}
-use Rattle.filter_core.proofs.report.output_width.Goals as goal
+use Rattle.filter_report.proofs.report.output_width.Goals as goal
 
 pub returns : goal.returns
 returns c =

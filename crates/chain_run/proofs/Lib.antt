@@ -1,0 +1,9 @@
+pub mod RunSteps
+pub mod SampleSteps
+pub mod TickSteps
+pub mod TimingSteps
+pub mod FollowingTicks
+pub mod ChainLines
+pub mod GivingSteps
+pub mod StreamSteps
+pub mod CallSteps

@@ -1,0 +1,5 @@
+pub mod Outputs
+pub mod Ticks
+pub mod Given
+pub mod Stream
+pub mod Ends

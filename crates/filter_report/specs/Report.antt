@@ -1,0 +1,50 @@
+-- The report of a plan and its module.
+use Rattle.std.specs.Prelude.{ℕ, ◌+◌, List, [], ◌∷◌, ◌++◌, codes, decimal, if◌then◌else◌}
+use Rattle.mr_values.specs.Timing.{Group, wide}
+use Rattle.plan_check.specs.declared.facts.Facts.{Facts}
+use Rattle.stage_law.specs.declared.stage.Kind.{Kind}
+use Rattle.stage_law.specs.declared.stage.Kind.TheVariants.{Parallel, Symmetric, HalfBand, Folded, Distributed, CicDown, CicUp, Rounding}
+use Rattle.chain_build.specs.Built.{kind_of}
+use Rattle.verilog_tree.specs.declared.tree.Signal.{Signal}
+use Rattle.verilog_tree.specs.Counted.{Counts, counted, is_reg}
+use Rattle.verilog_tree.specs.Names.{text_of}
+use Rattle.verilog_tree.specs.Tree.{Design}
+
+-- the tick of the first output, the ticks from one to the next, the bound and the shift, and the bits of an output
+abbrev pub plan_lines : Facts → List ℕ
+plan_lines facts =
+    codes "latency " ++ decimal facts.latency ++ codes "\nperiod " ++ decimal facts.period ++ codes "\nbound " ++ decimal facts.bound ++ codes "\nshift " ++ decimal facts.shift
+    ++ codes "\noutput " ++ decimal (wide facts.end_lo facts.end_hi) ++ codes "\n"
+
+abbrev pub kind_word : Kind → List ℕ
+kind_word Parallel = codes "parallel"
+kind_word Symmetric = codes "symmetric"
+kind_word HalfBand = codes "half_band"
+kind_word Folded = codes "folded"
+kind_word Distributed = codes "distributed"
+kind_word CicDown = codes "cic_down"
+kind_word CicUp = codes "cic_up"
+kind_word Rounding = codes "round"
+
+-- the form of a group, and its adders, window registers and tables
+abbrev pub group_line : ℕ → Kind → Counts → List ℕ
+group_line number kind counts =
+    codes "group " ++ decimal number ++ codes " " ++ kind_word kind ++ codes " adders " ++ decimal counts.adders ++ codes " windows " ++ decimal counts.windows ++ codes " tables "
+    ++ decimal counts.tables ++ codes "\n"
+
+-- a line for each group, numbered from here: what it costs is counted in the module's statements
+abbrev pub group_lines : ℕ → List Group → Design → List ℕ
+group_lines number [] d = []
+group_lines number (g ∷ gs) d = group_line number (kind_of g) (counted d number) ++ group_lines (number + 1) gs d
+
+-- the name of a register and its bits, and nothing for another signal
+abbrev pub register_line : Design → Signal → List ℕ
+register_line d s = if is_reg s.kind then codes "register " ++ text_of d s.name ++ codes " " ++ decimal s.width ++ codes "\n" else []
+
+-- a line for each register, in the order of the declarations
+abbrev pub register_lines : Design → List Signal → List ℕ
+register_lines d [] = []
+register_lines d (s ∷ ss) = register_line d s ++ register_lines d ss
+
+abbrev pub report_text : Facts → List Group → Design → List ℕ
+report_text facts gs d = plan_lines facts ++ group_lines 1 gs d ++ register_lines d d.signals

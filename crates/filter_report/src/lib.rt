@@ -1,0 +1,8 @@
+//! The report of a plan and its module.
+#![tactic(auto)]
+
+mod groups;
+mod registers;
+mod report;
+
+pub use report::report_text;

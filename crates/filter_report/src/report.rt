@@ -1,0 +1,56 @@
+// The report of a plan and its module.
+ghost use Rattle.std.specs.Prelude.{◌≡◌, ◌++◌, List, codes, decimal, IfOk, OnOk};
+ghost use Rattle.mr_values.specs.Timing.{Group, wide};
+ghost use Rattle.verilog_tree.specs.View.{design_view};
+ghost use Rattle.filter_text.specs.Written.{TellCosts};
+ghost use Rattle.filter_report.specs.Report.{plan_lines, report_text};
+
+use crate::groups::put_groups;
+use crate::registers::put_registers;
+use filter_text::ChainModule;
+use itoa::Buffer;
+use mr_values::least_width;
+use plan_check::Facts;
+use std::alloc::{AllocError, Global};
+
+// The bits of an output.
+fn output_width(facts: &Facts) -> u8
+    ensures { result ≡ wide facts.now.end_lo facts.now.end_hi }
+{
+    least_width(facts.end_lo, facts.end_hi)
+}
+
+/// Appends a word and a number.
+pub(crate) fn put_number(text: &mut Vec<u8>, word: &str, number: u128) -> Result<(), AllocError>
+    ensures { OnOk result (text.new.items ≡ text.old.items ++ word.now ++ decimal number) }
+{
+    text.extend_from_slice(word.as_bytes())?;
+    let mut buffer = Buffer::new();
+    text.extend_from_slice(buffer.format(number).as_bytes())?;
+    Ok(())
+}
+
+// The lines of the plan's numbers.
+fn plan_lines(alloc: Global, facts: &Facts) -> Result<Vec<u8>, AllocError>
+    ensures { IfOk result (λ text. text.items ≡ plan_lines facts.now) }
+{
+    let mut text = Vec::new(alloc);
+    put_number(&mut text, "latency ", u128::from(facts.latency))?;
+    put_number(&mut text, "\nperiod ", u128::from(facts.period))?;
+    put_number(&mut text, "\nbound ", facts.bound)?;
+    put_number(&mut text, "\nshift ", u128::from(facts.shift))?;
+    put_number(&mut text, "\noutput ", u128::from(output_width(facts)))?;
+    text.extend_from_slice(b"\n")?;
+    Ok(text)
+}
+
+/// The report: latency and period in ticks, the bound, the shift, and the bits of the output; the form and the cost of each group; and
+/// the bits of each register, in the order of the text. Fails only for want of memory.
+pub fn report_text(alloc: Global, facts: &Facts, chain: &ChainModule) -> Result<Vec<u8>, AllocError>
+    ensures { IfOk result (λ text. (gs : List Group) → TellCosts 1 gs chain.now.costs.items (design_view chain.now.design) → text.items ≡ report_text facts.now gs (design_view chain.now.design)) }
+{
+    let mut text = plan_lines(alloc, facts)?;
+    put_groups(&mut text, &chain.costs)?;
+    put_registers(&mut text, &chain.design)?;
+    Ok(text)
+}

@@ -1,0 +1,58 @@
+use Rattle.std.proofs.Common.{ℕ, subst, sym, ◌∙◌}
+use Rattle.mr_values.specs.Value.{size}
+use Rattle.mr_values.specs.Width.{IsLeastWidth}
+use Rattle.mr_values.specs.Timing.{groups, last_stream}
+use Rattle.verilog_tree.specs.Tree.{Design}
+use Rattle.verilog_text.specs.Grammar.{limits}
+use Rattle.verilog_text.specs.Shortest.{IsWritable}
+use Rattle.verilog_text.specs.Order.{IsInOrder, IsSameButPlaces}
+use Rattle.net_module.proofs.Outputs.{shows_as}
+use Rattle.net_text.proofs.Writable.{has_text, in_order}
+use Rattle.uncut_runs.proofs.Exists.{passing_uncut}
+use Rattle.filter_text.specs.Headline.{ShowsChain, KeepsOutput}
+use Rattle.filter_text.specs.Written.{TellCosts}
+use Rattle.filter_text.proofs.ChainLimits.{narrow_plan, wide_plan, some_ticks}
+use Rattle.filter_text.proofs.ChainPlaces.{chain_writable, output_wide}
+use Rattle.filter_text.proofs.ChainShows.{chain_shows}
+use Rattle.filter_text.proofs.UncutOutput.{keeps_output}
+use Rattle.plan_laws.proofs.Passes.{passes_of}
+use Rattle.filter_text.proofs.CountedText.{chain_counted, chain_costs}
+use Rattle.filter_text.proofs.ReadModules.{passing, running, output_width}
+use Rattle.filter_text.proofs.chain.chain_module.Goals as goal
+
+pub module_of-requires-clause-writable : goal.module_of-requires-clause-writable
+module_of-requires-clause-writable c = chain_writable c.in_ok-built.ensures.chain (narrow_plan c.args.plan.now c.requires.accepted)
+
+pub returns : goal.returns
+returns c =
+    let W = size c.args.plan.now.width in
+    let T = size c.args.plan.now.ticks in
+    let es = c.args.plan.now.elements in
+    let cells = c.in_ok-built.built.net in
+    let net = c.in_ok-built.ensures.chain in
+    let can = chain_writable net (narrow_plan c.args.plan.now c.requires.accepted) in
+    let few = (passes_of c.args.plan.now c.requires.accepted).limits.few in
+    let small = c.nets_are_small.ensures in
+    let has = c.in_ok-built.ensures.costs in
+    let is = c.in_ok-design.ensures in
+    record {
+      is_module = λ d same.
+          let as_written = subst (λ (e : Design). IsSameButPlaces d e) is same in
+          record {
+            passes = passing cells net.netlist can d as_written;
+            runs = running cells net.netlist can d as_written;
+            one_uncut = passing_uncut d (passing cells net.netlist can d as_written);
+            output = subst (IsLeastWidth (last_stream W T es).low (last_stream W T es).high) (sym (output_width cells d as_written ∙ output_wide net)) net.least;
+            shows = subst (λ (p : ℕ). ShowsChain es W T c.args.facts.now.latency p d) (sym c.requires.are_facts.period_is)
+                (subst (λ (l : ℕ). ShowsChain es W T l (last_stream W T es).period d) (sym c.requires.are_facts.latency_is)
+                (chain_shows (wide_plan c.args.plan.now c.requires.accepted) (some_ticks c.args.plan.now c.requires.accepted) net.positive net (shows_as cells net.netlist can) d as_written));
+            uncut = λ plain.
+                subst (λ (p : ℕ). KeepsOutput es W T c.args.facts.now.latency p d) (sym c.requires.are_facts.period_is)
+                (subst (λ (l : ℕ). KeepsOutput es W T l (last_stream W T es).period d) (sym c.requires.are_facts.latency_is)
+                (keeps_output (wide_plan c.args.plan.now c.requires.accepted) (narrow_plan c.args.plan.now c.requires.accepted) (some_ticks c.args.plan.now c.requires.accepted) net d as_written plain));
+            costs = chain_counted es c.in_ok-built.built.costs.items cells few net.netlist small has d as_written;
+          };
+      writable = subst (λ (d : Design). IsWritable limits d) (sym is) (has_text cells net.netlist can small);
+      in_order = subst (λ (d : Design). IsInOrder d) (sym is) (in_order cells net.netlist can);
+      costs = subst (λ (d : Design). TellCosts 1 (groups es) c.in_ok-built.built.costs.items d) (sym is) (chain_costs es c.in_ok-built.built.costs.items cells few net.netlist small has);
+    }

@@ -1,0 +1,3 @@
+pub mod Gain
+pub mod Reach
+pub mod Response
