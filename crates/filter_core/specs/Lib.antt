@@ -9,6 +9,9 @@ pub mod CommandWords
 pub mod Compile
 pub mod Noble
 pub mod Run
+pub mod SimText
+pub mod Sim
+pub mod Order
 pub mod Tool
 pub mod FaultWords
 pub mod FaultLines

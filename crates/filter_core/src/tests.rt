@@ -102,3 +102,63 @@ fn runs_samples(rt: HostRuntime) -> Result<(), Fail> {
     }
     Ok(())
 }
+
+const TEXT: &[u8] = b"module t (input clk, rst, ce, input signed [3:0] in_data,
+          output out_valid, output signed [4:0] out_data);
+  reg signed [3:0] a;
+  reg v;
+  wire signed [4:0] y;
+  assign y = in_data + a;
+  assign out_valid = v;
+  assign out_data = y;
+  always @(posedge clk)
+    if (rst) begin a <= 4'sh0; v <= 1'h0; end
+    else if (ce) begin a <= in_data; v <= 1'h1; end
+endmodule
+";
+
+#[test]
+fn simulates_in_pieces(rt: HostRuntime) -> Result<(), Fail> {
+    let alloc = rt.alloc();
+    for (stimulus, status, lines) in [
+        (
+            "1 0 0\n0 1 -8\n0 0 5\n0 1 -8\n1 1 3\n0 1 7\n0 1 7",
+            0,
+            "3 1 -16\n6 1 14\n",
+        ),
+        (
+            "1 0 0\n0 1 -8\n0 0 5\n0 1 -8\n0 1 8\n0 1 7\n",
+            31,
+            "3 1 -16\n",
+        ),
+    ] {
+        let mut host = MemoryHost::new(alloc);
+        host.add_file("text", TEXT)?;
+        host.add_file("stimulus", stimulus.as_bytes())?;
+        host.set_piece(3);
+        let outcome = filter_tool(alloc, &words(alloc, "sim text stimulus out")?, &mut host);
+        assert_eq!(rt; outcome.status, status);
+        assert_eq!(rt; host.file("out"), Some(lines.as_bytes()));
+    }
+    Ok(())
+}
+
+#[test]
+fn orders_by_a_number(rt: HostRuntime) -> Result<(), Fail> {
+    let alloc = rt.alloc();
+    for (line, lines) in [
+        ("order text stimulus out 0", "3 1 -16 2\n6 1 14 2\n"),
+        ("order text stimulus out 1", "3 1 -16 1\n6 1 14 2\n"),
+    ] {
+        let mut host = MemoryHost::new(alloc);
+        host.add_file("text", TEXT)?;
+        host.add_file(
+            "stimulus",
+            b"1 0 0\n0 1 -8\n0 0 5\n0 1 -8\n1 1 3\n0 1 7\n0 1 7\n",
+        )?;
+        let outcome = filter_tool(alloc, &words(alloc, line)?, &mut host);
+        assert_eq!(rt; outcome.status, 0);
+        assert_eq!(rt; host.file("out"), Some(lines.as_bytes()));
+    }
+    Ok(())
+}

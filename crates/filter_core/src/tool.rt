@@ -10,7 +10,9 @@ ghost use Rattle.filter_core.specs.Tool.{CommandEnds, ToolEnds, IsUnbuilt, IsUnb
 use crate::Fault;
 use crate::compile_command::compile;
 use crate::noble_command::noble;
+use crate::order_command::order;
 use crate::run_command::run_plan;
+use crate::sim_command::sim;
 use crate::status::status_of;
 use crate::words::{Command, read_words};
 use mr_values::Host;
@@ -75,8 +77,17 @@ fn run<H: Host>(alloc: Global, command: Command<'_>, host: &mut H) -> Result<(),
     match command {
         Command::Compile { plan, text, report } => compile(alloc, plan, text, report, host),
         Command::Run { plan, samples, out } => run_plan(alloc, plan, samples, out, host),
-        Command::Sim { .. } => Err(Fault::NotBuilt),
-        Command::Order { .. } => Err(Fault::NotBuilt),
+        Command::Sim {
+            text,
+            stimulus,
+            out,
+        } => sim(alloc, text, stimulus, out, host),
+        Command::Order {
+            text,
+            stimulus,
+            out,
+            number,
+        } => order(alloc, text, stimulus, out, number, host),
         Command::Extreme { .. } => Err(Fault::NotBuilt),
         Command::Noble { plan, out } => noble(alloc, plan, out, host),
         Command::Demo { .. } => Err(Fault::NotBuilt),

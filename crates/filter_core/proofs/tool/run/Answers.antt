@@ -3,6 +3,8 @@ use Rattle.filter_core.specs.CommandWords.{words_of}
 use Rattle.filter_core.specs.Tool.{IsReady}
 use Rattle.filter_core.proofs.Completeness.{compile-complete, noble-complete}
 use Rattle.filter_core.proofs.RunSteps.{run-complete}
+use Rattle.filter_core.proofs.SimSteps.{sim-complete}
+use Rattle.filter_core.proofs.OrderSteps.{order-complete}
 use Rattle.filter_core.proofs.tool.run.Goals as goal
 
 pub returns-in-Compile-clause-complete : goal.returns-in-Compile-clause-complete
@@ -25,3 +27,17 @@ returns-in-Run-clause-complete g c = λ told ready unstruck.
     let new = g.H.Host.state c.run_plan.new.host in
     let accepted = subst (λ command. IsReady (words_of command) old.files) c.in-Run.is ready in
     run-complete c.in-Run.plan.now c.in-Run.samples.now c.in-Run.out.now c.run_plan.result old new (c.run_plan.ensures.cause.struck told) (c.run_plan.ensures.told told) accepted unstruck
+
+pub returns-in-Sim-clause-complete : goal.returns-in-Sim-clause-complete
+returns-in-Sim-clause-complete g c = λ told ready unstruck.
+    let old = g.H.Host.state c.args.host.now in
+    let new = g.H.Host.state c.sim.new.host in
+    let accepted = subst (λ command. IsReady (words_of command) old.files) c.in-Sim.is ready in
+    sim-complete c.in-Sim.text.now c.in-Sim.stimulus.now c.in-Sim.out.now c.sim.result old new (c.sim.ensures.cause.struck told) (c.sim.ensures.told told) accepted unstruck
+
+pub returns-in-Order-clause-complete : goal.returns-in-Order-clause-complete
+returns-in-Order-clause-complete g c = λ told ready unstruck.
+    let old = g.H.Host.state c.args.host.now in
+    let new = g.H.Host.state c.order.new.host in
+    let accepted = subst (λ command. IsReady (words_of command) old.files) c.in-Order.is ready in
+    order-complete c.in-Order.text.now c.in-Order.stimulus.now c.in-Order.out.now c.in-Order.number c.order.result old new (c.order.ensures.cause.struck told) (c.order.ensures.told told) accepted unstruck
