@@ -113,16 +113,16 @@ module _ (text stimulus out : List ℕ) (files : Files) (design : Module) (m : M
 
 -- ---- completeness
 
-same_bytes : (files : Files) (name one two : List ℕ) → get files name ≡ Some one → get files name ≡ Some two → one ≡ two
+pub same_bytes : (files : Files) (name one two : List ℕ) → get files name ≡ Some one → get files name ≡ Some two → one ≡ two
 same_bytes files name one two a b = let e : Some one ≡ Some two = sym a ∙ b in cc
 
 isnt_missing : (files : Files) (name bytes : List ℕ) → get files name ≡ Some bytes → get files name ≡ None → ⊥
 isnt_missing files name bytes there none = let e = sym there ∙ none in absurd (cc)
 
-one_text : (name : List ℕ) (files : Files) (d e : Design) → IsTextFile name files d → IsTextFile name files e → d ≡ e
+pub one_text : (name : List ℕ) (files : Files) (d e : Design) → IsTextFile name files d → IsTextFile name files e → d ≡ e
 one_text name files d e a b = one_design a.bytes d e a.reads (subst (λ (bytes : List ℕ). Reads bytes e) (same_bytes files name b.bytes a.bytes b.has.there a.has.there) b.reads)
 
-none_missing : (text stimulus : List ℕ) (files : Files) → AreSimFiles text stimulus files → IsMissing (IsTextOrStimulus text stimulus) files → ⊥
+pub none_missing : (text stimulus : List ℕ) (files : Files) → AreSimFiles text stimulus files → IsMissing (IsTextOrStimulus text stimulus) files → ⊥
 none_missing text stimulus files ready (name, inl is, none) = isnt_missing files text ready.read.bytes ready.read.has.there (ap (λ (n : List ℕ). get files n) (sym is) ∙ none)
 none_missing text stimulus files ready (name, inr is, none) = isnt_missing files stimulus ready.said.bytes ready.said.there (ap (λ (n : List ℕ). get files n) (sym is) ∙ none)
 
@@ -138,7 +138,7 @@ none_refused text stimulus files bytes why ready o =
 isnt_other : (name : List ℕ) (files : Files) (bytes : List ℕ) (d : Design) → IsTextFile name files d → IsOtherText name files bytes → ⊥
 isnt_other name files bytes d a other = other.other d (subst (λ (bs : List ℕ). Reads bs d) (same_bytes files name a.bytes bytes a.has.there other.has.there) a.reads) a.passes
 
-not_refused : (text stimulus : List ℕ) (files : Files) (why : Fault) → AreSimFiles text stimulus files → IsRefusedText text files why → ⊥
+pub not_refused : (text stimulus : List ℕ) (files : Files) (why : Fault) → AreSimFiles text stimulus files → IsRefusedText text files why → ⊥
 not_refused text stimulus files (fault.FileTooLong file.Text) ready long =
     let same : length long.bytes ≡ length ready.read.bytes = ap (λ (bytes : List ℕ). length bytes) (same_bytes files text long.bytes ready.read.bytes long.there ready.read.has.there) in
     absurd (omega (arith, same, long.long, ready.read.has.short))

@@ -11,6 +11,7 @@ pub mod Noble
 pub mod Run
 pub mod SimText
 pub mod Sim
+pub mod Order
 pub mod Tool
 pub mod FaultWords
 pub mod FaultLines

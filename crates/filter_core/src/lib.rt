@@ -8,6 +8,7 @@ mod fault_lines;
 mod fault_words;
 mod files;
 mod noble_command;
+mod order_command;
 mod row_files;
 mod run_command;
 mod sim_command;

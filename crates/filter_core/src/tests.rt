@@ -81,6 +81,28 @@ fn rewrites_a_plan(rt: HostRuntime) -> Result<(), Fail> {
     Ok(())
 }
 
+// Samples, the values of the chain that belong to them, and the status. A line that is refused comes after two ticks for each sample
+// before it, and value n stands at the tick 4 + n.
+#[test]
+fn runs_samples(rt: HostRuntime) -> Result<(), Fail> {
+    let alloc = rt.alloc();
+    let plan =
+        b"version = 1\nwidth = 8\nticks = 2\n[[element]]\nkind = \"up\"\nfactor = 2\n[[element]]\nkind = \"filter\"\ntaps_file = \"two\"\n";
+    for (samples, out, status) in [
+        ("1\n10", "1\n2\n13\n20\n", 0),
+        ("# none\n", "", 0),
+        ("1\n10\n\n0\n128\n5\n", "1\n2\n", 31),
+    ] {
+        let mut host = host_with(alloc, plan, b"1, 2, 3")?;
+        host.add_file("samples", samples.as_bytes())?;
+        host.set_piece(3);
+        let outcome = filter_tool(alloc, &words(alloc, "run plan samples out")?, &mut host);
+        assert_eq!(rt; outcome.status, status);
+        assert_eq!(rt; host.file("out"), Some(out.as_bytes()));
+    }
+    Ok(())
+}
+
 const TEXT: &[u8] = b"module t (input clk, rst, ce, input signed [3:0] in_data,
           output out_valid, output signed [4:0] out_data);
   reg signed [3:0] a;
@@ -121,24 +143,22 @@ fn simulates_in_pieces(rt: HostRuntime) -> Result<(), Fail> {
     Ok(())
 }
 
-// Samples, the values of the chain that belong to them, and the status. A line that is refused comes after two ticks for each sample
-// before it, and value n stands at the tick 4 + n.
 #[test]
-fn runs_samples(rt: HostRuntime) -> Result<(), Fail> {
+fn orders_by_a_number(rt: HostRuntime) -> Result<(), Fail> {
     let alloc = rt.alloc();
-    let plan =
-        b"version = 1\nwidth = 8\nticks = 2\n[[element]]\nkind = \"up\"\nfactor = 2\n[[element]]\nkind = \"filter\"\ntaps_file = \"two\"\n";
-    for (samples, out, status) in [
-        ("1\n10", "1\n2\n13\n20\n", 0),
-        ("# none\n", "", 0),
-        ("1\n10\n\n0\n128\n5\n", "1\n2\n", 31),
+    for (line, lines) in [
+        ("order text stimulus out 0", "3 1 -16 2\n6 1 14 2\n"),
+        ("order text stimulus out 1", "3 1 -16 1\n6 1 14 2\n"),
     ] {
-        let mut host = host_with(alloc, plan, b"1, 2, 3")?;
-        host.add_file("samples", samples.as_bytes())?;
-        host.set_piece(3);
-        let outcome = filter_tool(alloc, &words(alloc, "run plan samples out")?, &mut host);
-        assert_eq!(rt; outcome.status, status);
-        assert_eq!(rt; host.file("out"), Some(out.as_bytes()));
+        let mut host = MemoryHost::new(alloc);
+        host.add_file("text", TEXT)?;
+        host.add_file(
+            "stimulus",
+            b"1 0 0\n0 1 -8\n0 0 5\n0 1 -8\n1 1 3\n0 1 7\n0 1 7\n",
+        )?;
+        let outcome = filter_tool(alloc, &words(alloc, line)?, &mut host);
+        assert_eq!(rt; outcome.status, 0);
+        assert_eq!(rt; host.file("out"), Some(lines.as_bytes()));
     }
     Ok(())
 }

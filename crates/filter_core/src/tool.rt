@@ -10,6 +10,7 @@ ghost use Rattle.filter_core.specs.Tool.{CommandEnds, ToolEnds, IsUnbuilt, IsUnb
 use crate::Fault;
 use crate::compile_command::compile;
 use crate::noble_command::noble;
+use crate::order_command::order;
 use crate::run_command::run_plan;
 use crate::sim_command::sim;
 use crate::status::status_of;
@@ -81,7 +82,12 @@ fn run<H: Host>(alloc: Global, command: Command<'_>, host: &mut H) -> Result<(),
             stimulus,
             out,
         } => sim(alloc, text, stimulus, out, host),
-        Command::Order { .. } => Err(Fault::NotBuilt),
+        Command::Order {
+            text,
+            stimulus,
+            out,
+            number,
+        } => order(alloc, text, stimulus, out, number, host),
         Command::Extreme { .. } => Err(Fault::NotBuilt),
         Command::Noble { plan, out } => noble(alloc, plan, out, host),
         Command::Demo { .. } => Err(Fault::NotBuilt),

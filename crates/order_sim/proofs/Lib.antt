@@ -1,4 +1,5 @@
 pub mod Cycles
+pub mod EveryOrder
 pub mod Flags
 pub mod Given
 pub mod Passing

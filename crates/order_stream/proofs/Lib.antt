@@ -1,3 +1,4 @@
 pub mod CycleSteps
 pub mod OneText
 pub mod RowSteps
+pub mod Whole

@@ -4,7 +4,7 @@ use Rattle.verilog_tree.specs.Tree.{Design}
 use Rattle.verilog_tree.specs.Meaning.{Values}
 use Rattle.verilog_tree.specs.Names.{shapes_of}
 use Rattle.verilog_tree.specs.Cycle.{circuit_of}
-use Rattle.verilog_tree.specs.Circuit.{Input, IsRun}
+use Rattle.verilog_tree.specs.Circuit.{Input, IsRun, IsSource}
 use Rattle.verilog_tree.specs.Checks.{Passes}
 use Rattle.verilog_tree.specs.Shown.{Cycle, Event, inputs_of, ports_of, event_of, events_of, ticks_after}
 use Rattle.module_laws.specs.Running.{HasRuns}
@@ -18,9 +18,9 @@ use Rattle.event_order.specs.Laws.{EveryRun, inputs_over}
 use Rattle.order_stream.specs.Ordered.{Ordered, with_last, ordered_events, printed_orders, GivesOrdered}
 use Rattle.order_stream.specs.Laws.{HasOneOrderedText, EveryOrderShows}
 
-same_run : (d : Design) → Passes d → (content : Values) (cycles : List (List Input)) (a b : List Values) → IsRun (circuit_of d) content cycles a → IsRun (circuit_of d) content cycles b → a ≡ b
-same_run d passes content cycles a b f g =
-    one_run (circuit_of d) (circuit_sound d (passing_driven d passes)) (circuit_loop_free d (loop_free d passes.free)) cycles content content a b (λ n source. refl) f g
+same_run : (d : Design) → Passes d → (a b : Values) (cycles : List (List Input)) (s t : List Values) → ((n : ℕ) → IsSource (circuit_of d) n → a n ≡ b n)
+    → IsRun (circuit_of d) a cycles s → IsRun (circuit_of d) b cycles t → s ≡ t
+same_run d passes a b cycles s t alike f g = one_run (circuit_of d) (circuit_sound d (passing_driven d passes)) (circuit_loop_free d (loop_free d passes.free)) cycles a b s t alike f g
 
 pub one-ordered : (d : Design) → Passes d → HasRuns d → HasOneOrderedText d
 one-ordered d passes runs content cycle tick state cycles =
@@ -28,7 +28,7 @@ one-ordered d passes runs content cycle tick state cycles =
       printed_orders (ordered_events d (map cycle_at cycles.items) first.0 cycle tick state),
       record { settled = first.0; run = first.1; shown = refl; refused = refl },
       (λ other last g. g.shown ∙ ap (λ (settled : List Values). printed_orders (ordered_events d (map cycle_at cycles.items) settled cycle tick state))
-          (same_run d passes content (map (inputs_of (ports_of d)) (map cycle_at cycles.items)) g.settled first.0 g.run first.1)),
+          (same_run d passes content content (map (inputs_of (ports_of d)) (map cycle_at cycles.items)) g.settled first.0 (λ n source. refl) g.run first.1)),
     )
 
 -- ---- without the last assignments
@@ -57,7 +57,7 @@ same_events d (c ∷ cycles) (values ∷ settled) cycle tick state =
     ∙ ap (λ (es : List Event). here ++ es) (sym (same_events d cycles settled (cycle + 1) (ticks_after c tick) next)))
 
 pub every-order : (d : Design) → Passes d → EveryRun d → EveryOrderShows d
-every-order d passes every content cycles settled reads after cycle tick state run orders =
-    let read = every cycles content reads after orders in
-    ap (λ (values : List Values). events_of (shapes_of d) (ports_of d) cycles values cycle tick) (same_run d passes content (inputs_over d cycles) reads settled read run)
+every-order d passes every content begun cycles settled reads after cycle tick state alike run orders =
+    let read = every cycles begun reads after orders in
+    ap (λ (values : List Values). events_of (shapes_of d) (ports_of d) cycles values cycle tick) (same_run d passes begun content (inputs_over d cycles) reads settled alike read run)
     ∙ same_events d cycles settled cycle tick state

@@ -3,6 +3,7 @@ use Rattle.std.specs.Prelude.{◌≡◌, ℕ, List, map, Option}
 use Rattle.verilog_tree.specs.Tree.{Design}
 use Rattle.verilog_tree.specs.Meaning.{Values}
 use Rattle.verilog_tree.specs.Names.{shapes_of}
+use Rattle.verilog_tree.specs.Circuit.{IsSource}
 use Rattle.verilog_tree.specs.Cycle.{circuit_of}
 use Rattle.verilog_tree.specs.Shown.{Cycle, RunsOver, ports_of, events_of}
 use Rattle.sample_file.specs.declared.fault.LineFault.{LineFault}
@@ -21,6 +22,6 @@ HasOneOrderedText d = (content : Values) (cycle tick state : ℕ) (cycles : Chec
 -- in every order of the cycles, from these registers and any wires with every assignment pending, the outputs that are read show the same as the run,
 -- and so do the drawn steps of every state, but for the last assignments
 abbrev pub EveryOrderShows : Design → Type 0
-EveryOrderShows d = (content : Values) (cycles : List Cycle) (settled reads : List Values) (after : Moment) (cycle tick state : ℕ)
-    → RunsOver d content cycles settled → AreOrders (circuit_of d) (inputs_over d cycles) (first_moment content) reads after
+EveryOrderShows d = (content begun : Values) (cycles : List Cycle) (settled reads : List Values) (after : Moment) (cycle tick state : ℕ)
+    → ((n : ℕ) → IsSource (circuit_of d) n → begun n ≡ content n) → RunsOver d content cycles settled → AreOrders (circuit_of d) (inputs_over d cycles) (first_moment begun) reads after
     → events_of (shapes_of d) (ports_of d) cycles reads cycle tick ≡ map (λ (o : Ordered). o.event) (ordered_events d cycles settled cycle tick state)

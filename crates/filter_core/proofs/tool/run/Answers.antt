@@ -2,8 +2,9 @@ use Rattle.std.proofs.Common.{subst}
 use Rattle.filter_core.specs.CommandWords.{words_of}
 use Rattle.filter_core.specs.Tool.{IsReady}
 use Rattle.filter_core.proofs.Completeness.{compile-complete, noble-complete}
-use Rattle.filter_core.proofs.SimSteps.{sim-complete}
 use Rattle.filter_core.proofs.RunSteps.{run-complete}
+use Rattle.filter_core.proofs.SimSteps.{sim-complete}
+use Rattle.filter_core.proofs.OrderSteps.{order-complete}
 use Rattle.filter_core.proofs.tool.run.Goals as goal
 
 pub returns-in-Compile-clause-complete : goal.returns-in-Compile-clause-complete
@@ -20,6 +21,13 @@ returns-in-Noble-clause-complete g c = λ told ready unstruck.
     let accepted = subst (λ command. IsReady (words_of command) old.files) c.in-Noble.is ready in
     noble-complete c.in-Noble.plan.now c.in-Noble.out.now c.noble.result old new (c.noble.ensures.cause.struck told) (c.noble.ensures.told told) accepted.0 accepted.1 unstruck
 
+pub returns-in-Run-clause-complete : goal.returns-in-Run-clause-complete
+returns-in-Run-clause-complete g c = λ told ready unstruck.
+    let old = g.H.Host.state c.args.host.now in
+    let new = g.H.Host.state c.run_plan.new.host in
+    let accepted = subst (λ command. IsReady (words_of command) old.files) c.in-Run.is ready in
+    run-complete c.in-Run.plan.now c.in-Run.samples.now c.in-Run.out.now c.run_plan.result old new (c.run_plan.ensures.cause.struck told) (c.run_plan.ensures.told told) accepted unstruck
+
 pub returns-in-Sim-clause-complete : goal.returns-in-Sim-clause-complete
 returns-in-Sim-clause-complete g c = λ told ready unstruck.
     let old = g.H.Host.state c.args.host.now in
@@ -27,9 +35,9 @@ returns-in-Sim-clause-complete g c = λ told ready unstruck.
     let accepted = subst (λ command. IsReady (words_of command) old.files) c.in-Sim.is ready in
     sim-complete c.in-Sim.text.now c.in-Sim.stimulus.now c.in-Sim.out.now c.sim.result old new (c.sim.ensures.cause.struck told) (c.sim.ensures.told told) accepted unstruck
 
-pub returns-in-Run-clause-complete : goal.returns-in-Run-clause-complete
-returns-in-Run-clause-complete g c = λ told ready unstruck.
+pub returns-in-Order-clause-complete : goal.returns-in-Order-clause-complete
+returns-in-Order-clause-complete g c = λ told ready unstruck.
     let old = g.H.Host.state c.args.host.now in
-    let new = g.H.Host.state c.run_plan.new.host in
-    let accepted = subst (λ command. IsReady (words_of command) old.files) c.in-Run.is ready in
-    run-complete c.in-Run.plan.now c.in-Run.samples.now c.in-Run.out.now c.run_plan.result old new (c.run_plan.ensures.cause.struck told) (c.run_plan.ensures.told told) accepted unstruck
+    let new = g.H.Host.state c.order.new.host in
+    let accepted = subst (λ command. IsReady (words_of command) old.files) c.in-Order.is ready in
+    order-complete c.in-Order.text.now c.in-Order.stimulus.now c.in-Order.out.now c.in-Order.number c.order.result old new (c.order.ensures.cause.struck told) (c.order.ensures.told told) accepted unstruck

@@ -20,6 +20,7 @@ rows-preserved c =
       bytes = omega (arith, c.rows.invariant.bytes, c.in_ok-taken.ensures.bytes);
       bound = λ h. c.in_ok-taken.ensures.bound;
       within = omega (arith, c.in_ok-taken.ensures.within, c.split_at.ensures.back_len);
+      same = λ zero. absurd (omega (arith, zero, c.in_ok-taken.ensures.some (omega (arith, c.split_at.ensures.back_len, c.rows-test.true))));
       none = λ zero. absurd (omega (arith, zero, c.in_ok-taken.ensures.some (omega (arith, c.split_at.ensures.back_len, c.rows-test.true))));
       short = λ h. omega (arith, c.turn.ensures.short, c.rows.out.ok.0, c.len.ensures, c.if-len-le-FULL.true);
     }

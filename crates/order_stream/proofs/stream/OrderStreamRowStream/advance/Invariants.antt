@@ -10,6 +10,7 @@ invariant-rows l = record {
   bytes : most_before l.initial.self.place + l.taken ≤ most_before l.self.place;
   bound : 0 < l.taken → most_before l.self.place ≤ 2 ^ 45;
   within : l.taken ≤ length l.piece;
+  same : l.taken ≡ 0 → most_before l.self.place ≡ most_before l.initial.self.place;
   none : l.taken ≡ 0 → l.out.items ≡ l.initial.out.items;
   short : length l.initial.out.items ≤ 65536 → length l.out.items ≤ 65536;
 }

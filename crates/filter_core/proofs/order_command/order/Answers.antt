@@ -1,0 +1,22 @@
+use Rattle.std.proofs.Common.{refl, ◌∙◌}
+use Rattle.std.proofs.lemmas.Result.{err_from_is_err_and}
+use Rattle.verilog_tree.specs.View.{design_view}
+use Rattle.filter_core.proofs.OrderSteps.{order_ends, order_unread}
+use Rattle.filter_core.proofs.order_command.order.Goals as goal
+
+pub returns-in_err-design-clause-told : goal.returns-in_err-design-clause-told
+returns-in_err-design-clause-told g c =
+    let p = err_from_is_err_and c.from_residual.result c.from_residual.ensures.1 in
+    rw (p.1, p.2)
+    (λ told.
+    let read = c.in_err-design.ensures.told told in
+    order_unread c.args.text.now c.args.stimulus.now c.args.out.now c.args.number c.in_err-design.field-0.0 (g.H.Host.state c.args.host.now) (g.H.Host.state c.read_design.new.host) read.answer read.files)
+
+pub returns-clause-told : goal.returns-clause-told
+returns-clause-told g c = λ told.
+    let old = g.H.Host.state c.args.host.now in
+    let reading = c.in_ok-design.ensures.told told in
+    let sound = c.in_ok-design.ensures.sound in
+    let every = c.law_of_every_order.ensures (design_view c.in_ok-design.design) sound.formed sound.passes in
+    order_ends c.args.text.now c.args.stimulus.now c.args.out.now c.args.number old.files c.in_ok-design.design c.in_ok-stream.stream reading.answer c.in_ok-stream.ensures every c.stream_rows.result old (g.H.Host.state c.read_design.new.host)
+    (g.H.Host.state c.stream_rows.new.host) refl reading.files (c.stream_rows.ensures.told (c.in_ok-design.ensures.cause.same_kind ∙ told))
