@@ -1,0 +1,4 @@
+pub mod Extremes
+pub mod Ranges
+pub mod Rows
+pub mod Streams
