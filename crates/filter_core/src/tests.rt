@@ -9,7 +9,28 @@ use std::test::Fail;
 const PLAN: &[u8] =
     b"version = 1\nwidth = 4\n[[element]]\nkind = \"filter\"\ntaps_file = \"one\"\n[[element]]\nkind = \"round\"\nshift = 1\nmode = \"half_up\"\n[[element]]\nkind = \"filter\"\ntaps_file = \"two\"\n[[element]]\nkind = \"round\"\nshift = 2\nmode = \"floor\"\n";
 
-const REPORT: &[u8] = b"latency 7\nperiod 1\nbound 11\nshift 3\noutput 5\n";
+const REPORT: &[u8] = b"latency 7
+period 1
+bound 11
+shift 3
+output 5
+group 1 parallel adders 1 windows 1 tables 0
+group 2 round adders 1 windows 0 tables 0
+group 3 parallel adders 1 windows 1 tables 0
+group 4 round adders 0 windows 0 tables 0
+register s1_w0 4
+register s1_a0 6
+register ctl_0 2
+register s2_a0 5
+register ctl_1 2
+register s3_w0 5
+register s3_a0 7
+register ctl_2 3
+register s4_a0 5
+register ctl_3 3
+register out_q 5
+register ctl_4 3
+";
 
 // The plan, and the bytes of its second tap file.
 fn host_with(alloc: Global, plan: &[u8], two: &[u8]) -> Result<MemoryHost, Fail> {
