@@ -3,14 +3,15 @@ use Rattle.std.proofs.Common.{◌≡◌, ℕ, zero, suc, ◌+◌, ◌-◌, ◌*�
 use Rattle.std.proofs.lemmas.Int.{ints}
 use Rattle.std.proofs.lemmas.List.{take_more}
 use Rattle.mr_values.specs.declared.plan.Element.{Element}
-use Rattle.mr_values.specs.Value.{chain}
+use Rattle.mr_values.specs.Sequence.{samples, weighted_sum}
+use Rattle.mr_values.specs.Value.{chain, val}
 use Rattle.impulse_phase.specs.declared.table.Response.{Response as Table}
 use Rattle.impulse_phase.specs.Response.{Response, Responses, through, through_all, direct, responses, HasResponses, Cycle, cycle_after, cycle_after_all, full_cycle, IsLinear, AreLinear}
 use Rattle.impulse_phase.specs.Gain.{HasGain, gain_after, gain_after_all}
 use Rattle.impulse_phase.specs.Reach.{IsExtent, extent}
-use Rattle.impulse_phase.specs.Reading.{rows_of, cycle_of, responses_of, IsTable, IsAhead, Passes, IsResponseOf, IsWithinReach, IsModest, AreModest, HasRoomFor}
+use Rattle.impulse_phase.specs.Reading.{silent, rows_of, cycle_of, responses_of, IsTable, IsAhead, Passes, IsResponseOf, GivesValues, IsWithinReach, IsModest, AreModest, HasRoomFor}
 use Rattle.impulse_phase.proofs.Gain.{prefix-gain}
-use Rattle.impulse_phase.proofs.Prefix.{prefix-has}
+use Rattle.impulse_phase.proofs.Prefix.{prefix-has, val-by_class}
 use Rattle.impulse_phase.proofs.Reach.{prefix-extent, times-le, weights-within_reach}
 use Rattle.impulse_phase.proofs.Steps.{direct-has}
 use Rattle.impulse_phase.proofs.Tables.{told_is, told_here}
@@ -54,6 +55,18 @@ response_of es table t = record {
   classes = ap (λ (p : Cycle). p.classes) t.cycle;
   step = ap (λ (p : Cycle). p.step) t.cycle;
   rows = λ class below. sym (told_here (rows_of table) table.step class (subst (λ (n : ℕ). class < n) (sym (ap (λ (p : Cycle). p.classes) t.cycle)) below)) ∙ ap (λ (f : Responses). f (pos class)) t.told;
+}
+
+pub gives_values : (es : List Element) (table : Table) → AreLinear es → TellsPrefix es table → GivesValues es table
+gives_values es table linear t = record {
+  each = λ xs class round below.
+      let h = response_of es table t in
+      let p = full_cycle es in
+      let row = get_or (rows_of table) class silent in
+      let is : ℕ → ℕ → Response → Type 0 = λ classes step r. val es xs (pos (class + round * classes)) ≡ weighted_sum r.weights (λ i. samples xs (r.newest +ℤ pos (round * step) -ℤ pos i)) in
+      let told : row ≡ responses es (pos class) = h.rows class (subst (λ (n : ℕ). class < n) h.classes below) in
+      subst (λ (n : ℕ). is n table.step row) (sym h.classes)
+      (subst (λ (n : ℕ). is p.classes n row) (sym h.step) (subst (λ (r : Response). is p.classes p.step r) (sym told) (val-by_class es xs class round linear)));
 }
 
 pub within_reach : (es : List Element) (table : Table) → AreLinear es → TellsPrefix es table → IsWithinReach es table

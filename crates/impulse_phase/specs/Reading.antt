@@ -1,8 +1,9 @@
 -- What the table of a chain's responses tells.
-use Rattle.std.specs.Prelude.{◌≡◌, ℕ, ◌+◌, ◌*◌, ◌<◌, ◌≤◌, ◌^◌, List, [], length, get_or, map, take, pos, ◌*ℤ◌, ◌≤ℤ◌}
+use Rattle.std.specs.Prelude.{◌≡◌, ℕ, ◌+◌, ◌*◌, ◌<◌, ◌≤◌, ◌^◌, List, [], length, get_or, map, take, ℤ, pos, ◌+ℤ◌, ◌-ℤ◌, ◌*ℤ◌, ◌≤ℤ◌}
 use Rattle.mr_values.specs.declared.plan.Element.{Element}
 use Rattle.mr_values.specs.Width.{floor_quotient, floor_remainder}
-use Rattle.mr_values.specs.Sequence.{Sequence}
+use Rattle.mr_values.specs.Sequence.{Sequence, samples, weighted_sum}
+use Rattle.mr_values.specs.Value.{val}
 use Rattle.impulse_phase.specs.declared.table.Row.{Row}
 use Rattle.impulse_phase.specs.declared.table.Response.{Response as Table}
 use Rattle.impulse_phase.specs.Response.{Response, Responses, later, responses, Cycle, full_cycle, cycle_after, HasResponses}
@@ -27,6 +28,13 @@ pub record IsResponseOf (elements : List Element) (table : Table) : Type 0 where
   pub classes : length (rows_of table) ≡ (full_cycle elements).classes
   pub step : table.step ≡ (full_cycle elements).step
   pub rows : (class : ℕ) → class < (full_cycle elements).classes → get_or (rows_of table) class silent ≡ responses elements (pos class)
+
+-- The value at each index of a class is the sum of the class's weights times the samples from its newest one on backwards, `step` samples
+-- later for each round of the classes.
+pub record GivesValues (elements : List Element) (table : Table) : Type 0 where
+  pub each : (xs : List ℤ) (class round : ℕ) → class < length (rows_of table)
+      → val elements xs (pos (class + round * length (rows_of table)))
+      ≡ weighted_sum (get_or (rows_of table) class silent).weights (λ i. samples xs ((get_or (rows_of table) class silent).newest +ℤ pos (round * table.step) -ℤ pos i))
 
 -- a row has no more weights than the chain's reach, and no sample that comes after its index
 pub record IsWithinReach (elements : List Element) (table : Table) : Type 0 where

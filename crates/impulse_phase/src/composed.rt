@@ -3,7 +3,7 @@
 ghost use Rattle.std.specs.Prelude.{◌≡◌, ◌<◌, pos, length, get_or, All, IfOk};
 ghost use Rattle.mr_values.specs.Value.{IsWithinLimits};
 ghost use Rattle.impulse_phase.specs.Response.{AreLinear};
-ghost use Rattle.impulse_phase.specs.Reading.{silent, rows_of, IsResponseOf, IsWithinReach, AreModest, IsFirst};
+ghost use Rattle.impulse_phase.specs.Reading.{silent, rows_of, GivesValues, IsResponseOf, IsWithinReach, AreModest, IsFirst};
 
 use crate::table::{Response, Row};
 use mr_values::{Element, Memory};
@@ -15,6 +15,7 @@ impl Response {
         requires linear { AreLinear elements.now }
         requires limits { All IsWithinLimits elements.now }
         requires modest { AreModest elements.now }
+        ensures values { IfOk result (λ response. GivesValues elements.now response) }
         ensures told { IfOk result (λ response. IsResponseOf elements.now response) }
         ensures within { IfOk result (λ response. IsWithinReach elements.now response) }
     {

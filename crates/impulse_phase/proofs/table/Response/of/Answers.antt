@@ -1,7 +1,7 @@
 use Rattle.std.proofs.Common.{◌≡◌, List, take, subst, arith}
 use Rattle.std.proofs.lemmas.List.{take_all}
 use Rattle.mr_values.specs.declared.plan.Element.{Element}
-use Rattle.impulse_phase.proofs.Prefixes.{TellsPrefix, tells_more, response_of, within_reach, linear_take, linear_at, is_table, is_ahead, has_room}
+use Rattle.impulse_phase.proofs.Prefixes.{TellsPrefix, tells_more, response_of, gives_values, within_reach, linear_take, linear_at, is_table, is_ahead, has_room}
 use Rattle.impulse_phase.proofs.table.Response.of.Goals as goal
 
 pub through-requires-clause-linear : goal.through-requires-clause-linear
@@ -33,4 +33,8 @@ returns c =
     let i = c.loop-element.element-index in
     let all : take i es ≡ es = take_all i es (omega (arith, c.loop-element-test.false)) in
     let prefix = subst (λ (ds : List Element). TellsPrefix ds c.loop-element.response) all c.loop-element.invariant in
-    record { told = response_of es c.loop-element.response prefix; within = within_reach es c.loop-element.response c.requires.linear prefix }
+    record {
+      values = gives_values es c.loop-element.response c.requires.linear prefix;
+      told = response_of es c.loop-element.response prefix;
+      within = within_reach es c.loop-element.response c.requires.linear prefix;
+    }
