@@ -52,7 +52,7 @@ magnitude-behind d [] = refl
 magnitude-behind zero (x ∷ a) = refl
 magnitude-behind (suc d) (x ∷ a) = omega (arith, magnitude-behind d (x ∷ a))
 
-magnitude-combined : (newest : ℤ) (cs : List ℤ) (f : ℕ → Response) (gain : ℕ) → ((k : ℕ) → magnitude (f k).weights ≤ gain)
+pub magnitude-combined : (newest : ℤ) (cs : List ℤ) (f : ℕ → Response) (gain : ℕ) → ((k : ℕ) → magnitude (f k).weights ≤ gain)
     → magnitude (combined newest cs f) ≤ magnitude cs * gain
 magnitude-combined newest [] f gain h = omega arith
 magnitude-combined newest (c ∷ cs) f gain h =
@@ -70,18 +70,18 @@ magnitude-combined newest (c ∷ cs) f gain h =
 filter-gain : (taps : List ℤ) (f : Responses) (gain : ℕ) → HasGain f gain → HasGain (through_filter taps f) (magnitude taps * gain)
 filter-gain taps f gain h n = magnitude-combined (f n).newest taps (λ k. f (n -ℤ pos k)) gain (λ k. h (n -ℤ pos k))
 
-up-gain : (factor : ℕ) (f : Responses) (gain : ℕ) → HasGain f gain → HasGain (through_up factor f) gain
+pub up-gain : (factor : ℕ) (f : Responses) (gain : ℕ) → HasGain f gain → HasGain (through_up factor f) gain
 up-gain factor f gain h n = either (nat_eq (floor_remainder n factor) 0)
   where
     either : (b : Bool) → magnitude (cond b (f (floor_quotient n factor)).weights []) ≤ gain
     either true = h (floor_quotient n factor)
     either false = omega arith
 
-magnitude-ones : (n : ℕ) → magnitude (ones n) ≡ n
+pub magnitude-ones : (n : ℕ) → magnitude (ones n) ≡ n
 magnitude-ones zero = refl
 magnitude-ones (suc n) = omega (arith, magnitude-ones n)
 
-filters-gain : (n width : ℕ) (f : Responses) (gain : ℕ) → HasGain f gain → HasGain (through_filters n (ones width) f) (width ^ n * gain)
+pub filters-gain : (n width : ℕ) (f : Responses) (gain : ℕ) → HasGain f gain → HasGain (through_filters n (ones width) f) (width ^ n * gain)
 filters-gain zero width f gain h = λ n. omega (arith, h n, ap (λ (m : ℕ). m * gain) (pow-zero width))
 filters-gain (suc n) width f gain h =
     subst (HasGain (through_filters (suc n) (ones width) f)) (powers n) (filter-gain (ones width) (through_filters n (ones width) f) (width ^ n * gain) (filters-gain n width f gain h))

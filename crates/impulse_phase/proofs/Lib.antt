@@ -1,7 +1,12 @@
+pub mod Arms
 pub mod Ends
+pub mod Examples
 pub mod Gain
 pub mod Places
 pub mod Prefix
+pub mod Prefixes
 pub mod Reach
 pub mod Steps
+pub mod Sums
+pub mod Tables
 pub mod Weights

@@ -21,7 +21,7 @@ combined-place newest (c ∷ cs) f i =
 down-forward : (factor : ℕ) (f : Responses) → ((n : ℕ) → pos 0 ≤ℤ (f (pos n)).newest) → (n : ℕ) → pos 0 ≤ℤ (f (pos n *ℤ pos factor)).newest
 down-forward factor f h n = let at : pos n *ℤ pos factor ≡ pos (n * factor) = omega (arith, ints) in rw at (h (n * factor))
 
-filters-newest : (count : ℕ) (taps : List ℤ) (f : Responses) (n : ℤ) → (through_filters count taps f n).newest ≡ (f n).newest
+pub filters-newest : (count : ℕ) (taps : List ℤ) (f : Responses) (n : ℤ) → (through_filters count taps f n).newest ≡ (f n).newest
 filters-newest zero taps f n = refl
 filters-newest (suc count) taps f n = filters-newest count taps f n
 

@@ -47,7 +47,7 @@ common-positive a b h = factor-positive (a / common a b) (common a b) a (quotien
 pub common-positive_right : (a b : ℕ) → 0 < b → 0 < b / common a b
 common-positive_right a b h = factor-positive (b / common a b) (common a b) b (quotient-whole b (common a b) (mod-eq-zero_of_dvd (common a b) (common-is a b).1)) h
 
-down-turns : (factor : ℕ) (transform : Sequence → Sequence) (f : Responses) (p : Cycle) → 0 < factor → HasResponses transform f p.classes p.step
+pub down-turns : (factor : ℕ) (transform : Sequence → Sequence) (f : Responses) (p : Cycle) → 0 < factor → HasResponses transform f p.classes p.step
     → HasResponses (λ x. down factor (transform x)) (through_down factor f) (cycle_down factor p).classes (cycle_down factor p).step
 down-turns factor transform f p positive h =
     down-keeps factor (factor / common p.classes factor) (p.classes / common p.classes factor) (factor / common p.classes factor * p.step) transform f p.classes p.step h

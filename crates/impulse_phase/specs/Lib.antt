@@ -1,3 +1,4 @@
 pub mod Gain
 pub mod Reach
+pub mod Reading
 pub mod Response
