@@ -1,5 +1,5 @@
 #!/usr/bin/env python3
-"""Seconds of `compile` for parallel filters of 64, 256 and 1,024 taps of 16 bits, and how they grow beside terms * log(terms).
+"""Seconds of the processor of `compile` for parallel filters of 64, 256 and 1,024 taps of 16 bits, and how they grow beside terms * log(terms).
 
 Usage: bench/compile.py [PROGRAM]   (by default crates/filter_cli/out/filter_cli, which `./wadrelion` builds)
 
@@ -26,8 +26,10 @@ def weight(tap):
     return digits
 
 
-def seconds(program, folder):
-    return min(measured([program, "compile", "plan.toml", "out.v", "out.txt"], folder)[0] for _ in range(RUNS))
+def least(program, folder):
+    """The least seconds and the least peak memory of some runs."""
+    runs = [measured([program, "compile", "plan.toml", "out.v", "out.txt"], folder) for _ in range(RUNS)]
+    return min(run[0] for run in runs), min(run[1] for run in runs)
 
 
 def main():
@@ -38,8 +40,8 @@ def main():
         terms = sum(weight(tap) for tap in values)
         with tempfile.TemporaryDirectory() as folder:
             write(folder, "plan.toml", filter_plan(values))
-            took = seconds(program, folder)
-        line = f"taps {count} terms {terms} seconds {took:.3f}"
+            took, memory = least(program, folder)
+        line = f"taps {count} terms {terms} seconds {took:.3f} MiB {memory:.0f}"
         if before is not None:
             wanted = terms * math.log(terms) / (before[0] * math.log(before[0]))
             line += f" growth {took / before[1] / wanted:.2f}"

@@ -1,7 +1,6 @@
-"""What the measuring scripts share: the program, drawn numbers, plans, and runs with their seconds and peak memory."""
+"""What the measuring scripts share: the program, drawn numbers, plans, and runs with their seconds of the processor and peak memory."""
 import os
 import sys
-import time
 
 
 def program_of(argv):
@@ -27,8 +26,7 @@ def filter_plan(taps, width=16):
 
 
 def measured(words, folder, output=None):
-    """Runs the words in a folder; their seconds by the clock and their peak memory in MiB."""
-    start = time.perf_counter()
+    """Runs the words in a folder; their seconds of the processor and their peak memory in MiB."""
     child = os.fork()
     if child == 0:
         os.chdir(folder)
@@ -37,10 +35,9 @@ def measured(words, folder, output=None):
             os.dup2(target, 1)
         os.execvp(words[0], words)
     _, status, usage = os.wait4(child, 0)
-    seconds = time.perf_counter() - start
     if status != 0:
         sys.exit(f"{words[0]} ended with status {os.waitstatus_to_exitcode(status)}")
-    return seconds, usage.ru_maxrss / 1024
+    return usage.ru_utime + usage.ru_stime, usage.ru_maxrss / 1024
 
 
 def write(folder, name, text):

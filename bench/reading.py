@@ -1,5 +1,5 @@
 #!/usr/bin/env python3
-"""MiB per second and peak memory of reading and checking a text: `sim` on a text of about 1 MiB and one of about 16 MiB, with one cycle.
+"""MiB per second of the processor and peak memory of reading and checking a text: `sim` on a text of about 1 MiB and one of about 16 MiB, with one cycle.
 
 Usage: bench/reading.py [PROGRAM]   (by default crates/filter_cli/out/filter_cli, which `./wadrelion` builds)
 

@@ -1,5 +1,5 @@
 #!/usr/bin/env python3
-"""Cycles per second of `sim`, beside Icarus Verilog and `order` on the same text and stimulus, and samples per second of `run`.
+"""Cycles per second of the processor of `sim`, beside Icarus Verilog and `order` on the same text and stimulus, and samples per second of `run`.
 
 Usage: bench/simulate.py [PROGRAM]   (by default crates/filter_cli/out/filter_cli, which `./wadrelion` builds)
 
