@@ -4,7 +4,7 @@ ghost use Rattle.std.specs.Prelude.{◌≡◌, ℕ, ◌+◌, ◌-◌, ◌<◌, �
 ghost use Rattle.mr_values.specs.Width.{wrap};
 ghost use Rattle.net_graph.specs.Cells.{NetView, cell_at};
 ghost use Rattle.net_graph.specs.Name.{IsRegisterName, IsWireName};
-ghost use Rattle.net_graph.specs.WellFormed.{IsWidth, IsNode, IsFree, IsLeastFree, IsFirstUnbound, IsNetlist, IsWellFormed};
+ghost use Rattle.net_graph.specs.WellFormed.{IsWidth, IsNode, IsFree, IsLeastFree, IsFirstUnbound, IsNetlist};
 ghost use Rattle.net_graph.specs.Numbers.{AreCounted};
 ghost use Rattle.net_graph.specs.Grow.{Adds, AddsRegister, IsUnbound, IsBoundTo, IsNamedAs};
 
@@ -279,13 +279,6 @@ impl Net {
         ensures wide { IsWidth result }
     {
         self.cells[node.place].width
-    }
-
-    /// The nodes read earlier nodes, and no two have one name. The call does nothing.
-    pub fn law_of_nodes(&self)
-        ensures { IsWellFormed self.now.cells }
-    {
-        let _ = &self.cells;
     }
 
     /// The net when it is done. Fails where a register has no next.

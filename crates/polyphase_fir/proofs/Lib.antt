@@ -3,14 +3,11 @@ pub mod FormLemmas
 pub mod TermLemmas
 pub mod HeldLemmas
 pub mod WidthsLemmas
-pub mod PeakLemmas
 pub mod BoundLemmas
 pub mod SumLemmas
 pub mod PhaseBounds
 pub mod CuttingLemmas
 pub mod RootLemmas
 pub mod ShownLemmas
-pub mod LeastLemmas
-pub mod DueLemmas
 pub mod RealisesLemmas
 pub mod SilentLemmas

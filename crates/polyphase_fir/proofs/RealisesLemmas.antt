@@ -1,5 +1,5 @@
 -- A window, trees and a selection realise a filter between an Up and a Down.
-use Rattle.std.proofs.Common.{◌≡◌, ℕ, suc, ◌+◌, ◌*◌, ◌/◌, ◌%◌, ◌<◌, ◌≤◌, List, length, get_or, sym, ◌∙◌, ap, arith, subst, ◌⊎◌, inl, inr, ℤ, pos, ◌+ℤ◌, ◌*ℤ◌, Some, slice_get}
+use Rattle.std.proofs.Common.{◌≡◌, ℕ, suc, ◌+◌, ◌*◌, ◌/◌, ◌%◌, ◌<◌, ◌≤◌, List, length, get_or, sym, ◌∙◌, ap, arith, subst, inl, inr, ℤ, pos, ◌+ℤ◌, ◌*ℤ◌, Some, slice_get}
 use Rattle.std.proofs.lemmas.Bool.{cases_lt}
 use Rattle.std.proofs.lemmas.Int.{ints}
 use Rattle.std.proofs.lemmas.Option.{slice_get-get_or}
@@ -10,35 +10,26 @@ use Rattle.mr_values.proofs.Polyphase.{down-filter-up}
 use Rattle.net_graph.specs.declared.cell.Node.{Node}
 use Rattle.net_graph.specs.declared.cell.Stream.{Stream}
 use Rattle.net_graph.specs.declared.name.Name.{Name}
-use Rattle.net_graph.specs.declared.name.NameKind.{NameKind}
 use Rattle.net_graph.specs.declared.name.NameKind.TheVariants.{Window, Register, Control}
 use Rattle.net_graph.specs.Cells.{NetView}
 use Rattle.net_graph.specs.Count.{adders_in, windows_in}
 use Rattle.net_graph.specs.Cut.{Cut, IsCut, cut_all, cut_control}
 use Rattle.net_graph.proofs.CutLemmas.{IsCut-all, IsCut-control}
-use Rattle.net_graph.specs.Grow.{Grows}
-use Rattle.net_graph.specs.WellFormed.{IsWellFormed}
 use Rattle.net_graph.proofs.GrowLemmas.{Grows-trans}
-use Rattle.net_graph.proofs.NetLemmas.{Extends-trans}
 use Rattle.net_graph.specs.Depth.{IsShallow}
 use Rattle.net_graph.proofs.DepthLemmas.{IsShallow-none}
 use Rattle.pipeline_balance.specs.Gate.{HasTaken}
 use Rattle.pipeline_balance.specs.Shallow.{ArePlain}
 use Rattle.pipeline_balance.proofs.ShallowLemmas.{shallow_more}
-use Rattle.pipeline_balance.specs.Numbered.{IsCounted, IsTouched, name_of}
-use Rattle.pipeline_balance.proofs.NumberedLemmas.{LeavesFree-trans, IsCounted-leaves}
+use Rattle.pipeline_balance.specs.Numbered.{IsTouched}
+use Rattle.pipeline_balance.proofs.NumberedLemmas.{LeavesFree-trans}
 use Rattle.stage_law.specs.declared.stage.Emitted.{Emitted}
-use Rattle.stage_law.specs.Realises.{Realises, CarriesThrough, IsOwnName, IsUnused}
-use Rattle.stage_law.specs.Streams.{Streams, AreCausal}
-use Rattle.stage_law.specs.declared.stage.Peak.{Peak}
+use Rattle.stage_law.specs.Realises.{Realises, CarriesThrough, IsOwnName}
+use Rattle.stage_law.specs.Streams.{Streams}
 use Rattle.polyphase_fir.specs.Facts.{polyphase_facts, elements_of, levels_of, adders_below}
 use Rattle.polyphase_fir.specs.Cutting.{AddsWindow}
-use Rattle.polyphase_fir.specs.Peaks.{TellsWindow, AddsRegisters, IsDue}
 use Rattle.polyphase_fir.specs.Roots.{AddsRoots, IsShown}
 use Rattle.polyphase_fir.specs.Sums.{SumsWindow}
-use Rattle.polyphase_fir.proofs.PeakLemmas.{KeepsPeaks-refl}
-use Rattle.polyphase_fir.proofs.LeastLemmas.{IsDue-later, least_registers}
-use Rattle.polyphase_fir.proofs.DueLemmas.{window_due}
 
 own_window : (group : ℕ) (name : Name) → IsTouched group Window name → IsOwnName group name
 own_window group name (inl h) = inl h.0
@@ -78,9 +69,8 @@ taken_at up down period q first n k r some positive whole index inside =
 
 pub Realises-phases : {old first second new : NetView} {from stream : Stream} {window roots : List Node} {levels : ℕ} (streams : Streams) (taps : List ℤ) (up down : ℕ) → 1 ≤ up → 1 ≤ from.period → 1 ≤ old.group
     → AddsWindow streams old first from window → ceil_div (length taps) up ≡ length window → AddsRoots streams first second from levels taps up roots → length roots ≡ up → IsShown second new roots up down from levels stream
-    → SumsWindow first second window → levels ≡ levels_of taps up → (emitted : Emitted) → emitted.stream ≡ stream → AreCausal streams → IsUnused old.cells old.group → IsWellFormed new.cells → (peaks : List Peak) → TellsWindow streams window (length window) peaks
-    → AddsRegisters streams first second from (length window) levels peaks emitted.peaks.items → Realises (polyphase_facts taps up down) streams old new from emitted
-Realises-phases {old} {first} {second} {new} {from} {stream} {window} {roots} {levels} streams taps up down some positive data_group w long p all shown sums levels_are emitted is causal unused well peaks tells registers =
+    → SumsWindow first second window → levels ≡ levels_of taps up → (emitted : Emitted) → emitted.stream ≡ stream → Realises (polyphase_facts taps up down) streams old new from emitted
+Realises-phases {old} {first} {second} {new} {from} {stream} {window} {roots} {levels} streams taps up down some positive data_group w long p all shown sums levels_are emitted is =
     let s = shown.shown in
     let same = w.grows.group in
     let same' = p.grows.group ∙ same in
@@ -107,58 +97,8 @@ Realises-phases {old} {first} {second} {new} {from} {stream} {window} {roots} {l
       names =
           LeavesFree-trans old.cells first.cells new.cells (IsTouched old.group Window) (IsOwnName old.group) (IsOwnName old.group) (own_window old.group) (λ name h. h) w.names
           (LeavesFree-trans first.cells second.cells new.cells (IsTouched first.group Register) (λ name. name.kind ≡ Control) (IsOwnName old.group) (λ name h. own_register old.group name (subst (λ (g : ℕ). IsTouched g Register name) same h)) (λ name h. inr h) p.names s.names);
-      least = λ linear.
-          least_registers streams from (length window) levels (length window) registers.more emitted.peaks.items well (Extends-trans _ _ _ w.grows.extends later.extends)
-          (LeavesFree-trans old.cells first.cells new.cells (IsTouched old.group Window) touched touched (λ name h. inl h) (λ name h. h) w.names
-          (LeavesFree-trans first.cells second.cells new.cells (IsTouched first.group Register) (λ name. name.kind ≡ Control) touched (λ name h. inr (subst (λ (g : ℕ). IsTouched g Register name) same h)) (λ name h. inl (inr h)) p.names s.names))
-          window_count tree_count
-          (λ k h. IsDue-later later.extends registers.keeps (window_due streams levels causal w tells k h))
-          tree_due facts positive (omega (arith, levels_are)) (omega (arith, long));
     }
   where
-    same : first.group ≡ old.group
-    same = w.grows.group
-
-    later : Grows first new
-    later = Grows-trans p.grows shown.shown.grows
-
-    touched : Name → Type 0
-    touched name = IsTouched old.group Window name ⊎ IsTouched old.group Register name
-
-    no_window : (group number : ℕ) → IsTouched group Register (name_of old.group Window number) → ⊥
-    no_window group number (inl h) = let e = h.1 in absurd (cc)
-    no_window group number (inr h) = absurd (cc)
-
-    no_register : (group number : ℕ) → IsTouched group Window (name_of old.group Register number) → ⊥
-    no_register group number (inl h) = let e = h.1 in absurd (cc)
-    no_register group number (inr h) = absurd (cc)
-
-    no_control : (kind : NameKind) → (kind ≡ Control → ⊥) → (number : ℕ) → (name_of old.group kind number).kind ≡ Control → ⊥
-    no_control kind apart number h = apart h
-
-    window_count : IsCounted new.cells old.group Window (length window)
-    window_count =
-        IsCounted-leaves old.group Window (length window) shown.shown.grows.extends shown.shown.names (no_control Window (λ h. absurd (cc)))
-        (IsCounted-leaves old.group Window (length window) p.grows.extends p.names (no_window first.group) w.counted)
-
-    none : IsCounted first.cells first.group Register 0
-    none =
-        subst (λ (g : ℕ). IsCounted first.cells g Register 0) (sym same)
-        (IsCounted-leaves old.group Register 0 w.grows.extends w.names (no_register old.group) (record { used = λ number less f. absurd (omega arith); free = λ number more. unused.free Register number }))
-
-    tree_count : IsCounted new.cells old.group Register registers.more
-    tree_count =
-        let from_none : 0 + registers.more ≡ registers.more = omega arith in
-        IsCounted-leaves old.group Register registers.more shown.shown.grows.extends shown.shown.names (no_control Register (λ h. absurd (cc)))
-        (subst (λ (g : ℕ). IsCounted second.cells g Register registers.more) same (subst (λ (n : ℕ). IsCounted second.cells first.group Register n) from_none (registers.counted 0 none)))
-
-    tree_due : (k : ℕ) → k < registers.more → IsDue streams new.cells from (length window) levels emitted.peaks.items old.group (name_of old.group Register k)
-    tree_due k h =
-        let from_none : 0 + k ≡ k = omega arith in
-        let due = IsDue-later shown.shown.grows.extends (KeepsPeaks-refl emitted.peaks.items) (registers.each 0 k none h) in
-        subst (λ (g : ℕ). IsDue streams new.cells from (length window) levels emitted.peaks.items g (name_of g Register k)) same
-        (subst (λ (n : ℕ). IsDue streams new.cells from (length window) levels emitted.peaks.items first.group (name_of first.group Register n)) from_none due)
-
     through : (cut : Cut) → IsCut cut → CarriesThrough cut streams (elements_of taps up down) new.cells from stream
     through cut law x values v in_streams run carried n =
         let r = n * down % up in

@@ -20,14 +20,14 @@ mapped_all P f (t ∷ ts) h zero leaf e = let same : f t ≡ leaf = cc in subst 
 mapped_all P f (t ∷ ts) h (suc k) leaf e = mapped_all P f ts (All-tail (λ (u : Term). P (f u)) t ts h) k leaf e
 
 -- where a register stands
-pub record Stands (n levels k : ℕ) : Type 0 where
-  pub level : ℕ
-  pub j : ℕ
-  pub low : level < levels
-  pub within : j < level_count n (suc level)
-  pub at : k ≡ count_to n level + j
+record Stands (n levels k : ℕ) : Type 0 where
+  level : ℕ
+  j : ℕ
+  low : level < levels
+  within : j < level_count n (suc level)
+  at : k ≡ count_to n level + j
 
-pub stands : (n levels k : ℕ) → k < count_to n levels → Stands n levels k
+stands : (n levels k : ℕ) → k < count_to n levels → Stands n levels k
 stands n zero k h = absurd (omega arith)
 stands n (suc levels) k h = elim (cases_lt k (count_to n levels)) [
   | inl less ↦ let s = stands n levels k less in record { level = s.level; j = s.j; low = let l = s.low in omega arith; within = s.within; at = s.at }

@@ -1,19 +1,16 @@
 -- The widths of the registers of a tree, one after another.
-use Rattle.std.proofs.Common.{◌≡◌, ℕ, zero, suc, ◌+◌, ◌*◌, ◌^◌, ◌<◌, ◌≤◌, List, [], ◌∷◌, ◌++◌, length, length-append, map, take, drop, get_or, refl, sym, ◌∙◌, ap, arith, inl, inr, subst, Some, slice_get}
+use Rattle.std.proofs.Common.{◌≡◌, ℕ, zero, suc, ◌+◌, ◌*◌, ◌^◌, ◌<◌, ◌≤◌, List, [], ◌∷◌, ◌++◌, length, length-append, take, drop, get_or, refl, sym, ◌∙◌, ap, arith, inl, inr, subst}
 use Rattle.std.proofs.lemmas.Bool.{cases_lt}
-use Rattle.std.proofs.lemmas.List.{length-map}
-use Rattle.std.proofs.lemmas.Option.{slice_get_within}
+use Rattle.std.proofs.lemmas.List.{get_or_append_left}
 use Rattle.std.proofs.lemmas.List.Elements.{All-take, All-drop}
 use Rattle.std.proofs.Math.Nat.{mul-le-mul_left}
-use Rattle.net_graph.proofs.Lists.{slice_get_push_cases}
 use Rattle.signed_digit.specs.declared.term_list.Term.{Term}
 use Rattle.pipeline_balance.specs.Tree.{level_count, count_to}
 use Rattle.pipeline_balance.proofs.SegmentLemmas.{count_to-mono}
 use Rattle.stage_law.specs.Streams.{Streams}
 use Rattle.polyphase_fir.specs.Placed.{powers, term_segment}
 use Rattle.polyphase_fir.specs.Form.{form_of}
-use Rattle.polyphase_fir.specs.Held.{FitWindow, IsFormWidth, IsHeld, AddsForms, AreTreeForms, AreTreeWidths}
-use Rattle.polyphase_fir.specs.declared.held.Held.{Held}
+use Rattle.polyphase_fir.specs.Held.{FitWindow, IsFormWidth, AddsWidths, AreTreeWidths}
 use Rattle.polyphase_fir.proofs.TermLemmas.{powers-take, powers-drop}
 
 length-take_most : (n : ℕ) (ts : List Term) → length (take n ts) ≤ length ts
@@ -49,80 +46,55 @@ FitWindow-segment streams depth terms level j part e f = subst (λ (ts : List Te
 
 -- ---- one level
 
-pub AddsForms-none : (streams : Streams) (depth : ℕ) (terms : List Term) (level : ℕ) (old : List Held) → AddsForms streams depth terms level 0 old old
-AddsForms-none streams depth terms level old = record { long = omega arith; kept = λ k own h is. is; each = λ j own h is. absurd (omega arith) }
+pub AddsWidths-none : (streams : Streams) (depth : ℕ) (terms : List Term) (level : ℕ) (old : List ℕ) → AddsWidths streams depth terms level 0 old old
+AddsWidths-none streams depth terms level old = record { long = omega arith; kept = λ k h. refl; each = λ j h. absurd (omega arith) }
 
-pub AddsForms-push : (streams : Streams) (depth : ℕ) (terms : List Term) (level count : ℕ) (old now : List Held) (own : Held) (new : List Held) (part : List Term) → part ≡ term_segment (suc level) count terms → AddsForms streams depth terms level count old now → IsHeld streams (form_of depth part) (level + 2) own
-    → new ≡ now ++ own ∷ [] → AddsForms streams depth terms level (count + 1) old new
-AddsForms-push streams depth terms level count old now own new part e p w is =
-    let longer : length new ≡ length now + 1 = ap length is ∙ length-append now (own ∷ []) in
+pub AddsWidths-push : (streams : Streams) (depth : ℕ) (terms : List Term) (level count : ℕ) (old now : List ℕ) (width : ℕ) (new : List ℕ) (part : List Term) → part ≡ term_segment (suc level) count terms → AddsWidths streams depth terms level count old now → IsFormWidth streams (form_of depth part) width
+    → new ≡ now ++ width ∷ [] → AddsWidths streams depth terms level (count + 1) old new
+AddsWidths-push streams depth terms level count old now width new part e p w is =
+    let longer : length new ≡ length now + 1 = ap length is ∙ length-append now (width ∷ []) in
+    let before : (k : ℕ) → k < length now → get_or new k 0 ≡ get_or now k 0 = λ k h. ap (λ (xs : List ℕ). get_or xs k 0) is ∙ get_or_append_left now (width ∷ []) 0 k h in
+    let at_end : get_or new (length now) 0 ≡ width = ap (λ (xs : List ℕ). get_or xs (length now) 0) is ∙ last now width in
     let long = p.long in
-    let cases = λ (k : ℕ) (found : Held) (there : slice_get new k ≡ Some found). slice_get_push_cases now own k found (subst (λ (xs : List Held). slice_get xs k ≡ Some found) is there) in
     record {
       long = omega (arith, longer, long);
-      kept = λ k found h there. elim (cases k found there) [
-        | inl before ↦ p.kept k found h before
-        | inr last ↦ absurd (let at = last.0 in omega (arith, long))
-      ];
-      each = λ j found h there. elim (cases (length old + j) found there) [
-        | inl before ↦ p.each j found (let inside = slice_get_within now (length old + j) found before in omega (arith, long)) before
-        | inr last ↦
-            let same : count ≡ j = let at = last.0 in omega (arith, long) in
-            let here : IsHeld streams (form_of depth (term_segment (suc level) count terms)) (level + 2) own = subst (λ (ts : List Term). IsHeld streams (form_of depth ts) (level + 2) own) e w in
-            subst (λ (n : ℕ). IsHeld streams (form_of depth (term_segment (suc level) n terms)) (level + 2) found) same
-            (subst (IsHeld streams (form_of depth (term_segment (suc level) count terms)) (level + 2)) (sym last.1) here)
+      kept = λ k h. before k (omega (arith, long)) ∙ p.kept k h;
+      each = λ j h. elim (cases_lt j count) [
+        | inl less ↦ subst (IsFormWidth streams (form_of depth (term_segment (suc level) j terms))) (sym (before (length old + j) (omega (arith, long)))) (p.each j less)
+        | inr ge ↦
+            let same : j ≡ count = omega arith in
+            let here : length old + j ≡ length now = omega (arith, long) in
+            let own : IsFormWidth streams (form_of depth (term_segment (suc level) count terms)) width = subst (λ (ts : List Term). IsFormWidth streams (form_of depth ts) width) e w in
+            subst (λ (n : ℕ). IsFormWidth streams (form_of depth (term_segment (suc level) n terms)) (get_or new (length old + j) 0)) (sym same)
+            (subst (IsFormWidth streams (form_of depth (term_segment (suc level) count terms))) (sym (ap (λ (n : ℕ). get_or new n 0) here ∙ at_end)) own)
       ];
     }
+  where
+    last : (xs : List ℕ) (x : ℕ) → get_or (xs ++ x ∷ []) (length xs) 0 ≡ x
+    last [] x = refl
+    last (y ∷ xs) x = last xs x
 
 -- ---- level by level
 
-pub AreTreeForms-none : (streams : Streams) (depth : ℕ) (terms : List Term) → AreTreeForms streams depth terms 0 []
-AreTreeForms-none streams depth terms = record { count = refl; each = λ level j own h. absurd (omega arith) }
+pub AreTreeWidths-none : (streams : Streams) (depth : ℕ) (terms : List Term) → AreTreeWidths streams depth terms 0 []
+AreTreeWidths-none streams depth terms = record { count = refl; each = λ level j h. absurd (omega arith) }
 
-pub AreTreeForms-level : (streams : Streams) (depth : ℕ) (terms : List Term) (level : ℕ) (old new : List Held) → AreTreeForms streams depth terms level old → AddsForms streams depth terms level (level_count (length terms) (suc level)) old new → AreTreeForms streams depth terms (level + 1) new
-AreTreeForms-level streams depth terms level old new p a =
+pub AreTreeWidths-level : (streams : Streams) (depth : ℕ) (terms : List Term) (level : ℕ) (old new : List ℕ) → AreTreeWidths streams depth terms level old → AddsWidths streams depth terms level (level_count (length terms) (suc level)) old new → AreTreeWidths streams depth terms (level + 1) new
+AreTreeWidths-level streams depth terms level old new p a =
     let next : suc level ≡ level + 1 = omega arith in
     let count = p.count in
-    subst (λ (n : ℕ). AreTreeForms streams depth terms n new) next (record {
+    subst (λ (n : ℕ). AreTreeWidths streams depth terms n new) next (record {
       count = a.long ∙ ap (λ (n : ℕ). n + level_count (length terms) (suc level)) count;
-      each = λ lower j own h within there. elim (cases_lt lower level) [
+      each = λ lower j h within. elim (cases_lt lower level) [
         | inl less ↦
             let below = count_to-mono (length terms) (suc lower) level less in
-            p.each lower j own less within (a.kept (count_to (length terms) lower + j) own (omega (arith, count, below)) there)
+            let own = p.each lower j less within in
+            subst (IsFormWidth streams (form_of depth (term_segment (suc lower) j terms))) (sym (a.kept (count_to (length terms) lower + j) (omega (arith, count, below)))) own
         | inr ge ↦
-            let same : level ≡ lower = omega arith in
-            let at : count_to (length terms) lower + j ≡ length old + j = omega (arith, count, ap (count_to (length terms)) same) in
-            let inside : j < level_count (length terms) (suc level) = subst (λ (n : ℕ). j < level_count (length terms) (suc n)) (sym same) within in
-            subst (λ (n : ℕ). IsHeld streams (form_of depth (term_segment (suc n) j terms)) (n + 2) own) same (a.each j own inside (subst (λ (k : ℕ). slice_get new k ≡ Some own) at there))
+            let same : lower ≡ level = omega arith in
+            let own = a.each j (subst (λ (n : ℕ). j < level_count (length terms) (suc n)) same within) in
+            let at : length old + j ≡ count_to (length terms) level + j = omega (arith, count) in
+            subst (λ (n : ℕ). IsFormWidth streams (form_of depth (term_segment (suc n) j terms)) (get_or new (count_to (length terms) n + j) 0)) (sym same)
+            (subst (λ (n : ℕ). IsFormWidth streams (form_of depth (term_segment (suc level) j terms)) (get_or new n 0)) at own)
       ];
     })
-
--- ---- their widths
-
--- an element within a list
-pub slice_get_some : {X : Type 0} (xs : List X) (k : ℕ) → k < length xs → (x : X) × (slice_get xs k ≡ Some x)
-slice_get_some [] k h = absurd (omega arith)
-slice_get_some (x ∷ xs) zero h = (x, refl)
-slice_get_some (x ∷ xs) (suc k) h = slice_get_some xs k (omega arith)
-
-pub get_or-map : {X : Type 0} (f : X → ℕ) (xs : List X) (k : ℕ) (x : X) → slice_get xs k ≡ Some x → get_or (map f xs) k 0 ≡ f x
-get_or-map f [] k x e = absurd (cc)
-get_or-map f (y ∷ xs) zero x e = let same : y ≡ x = cc in ap f same
-get_or-map f (y ∷ xs) (suc k) x e = get_or-map f xs k x e
-
--- where the register of a level stands
-pub within_tree : (n levels level j : ℕ) → level < levels → j < level_count n (suc level) → count_to n level + j < count_to n levels
-within_tree n levels level j low within = let below = count_to-mono n (suc level) levels low in omega (arith, below)
-
-pub AreTreeWidths-forms : (streams : Streams) (depth : ℕ) (terms : List Term) (levels : ℕ) (held : List Held) (widths : List ℕ) → widths ≡ map (λ (own : Held). own.width) held → AreTreeForms streams depth terms levels held → AreTreeWidths streams depth terms levels widths
-AreTreeWidths-forms streams depth terms levels held widths e f =
-    let count = f.count in
-    record {
-      count = ap length e ∙ length-map held (λ (own : Held). own.width) ∙ count;
-      each = λ level j low within.
-          let inside = within_tree (length terms) levels level j low within in
-          let own = slice_get_some held (count_to (length terms) level + j) (omega (arith, count, inside)) in
-          let is = f.each level j own.0 low within own.1 in
-          let wide : get_or widths (count_to (length terms) level + j) 0 ≡ own.0.width = ap (λ (xs : List ℕ). get_or xs (count_to (length terms) level + j) 0) e ∙ get_or-map (λ (one : Held). one.width) held (count_to (length terms) level + j) own.0 own.1 in
-          subst (IsFormWidth streams (form_of depth (term_segment (suc level) j terms))) (sym wide) (record { range = own.0.range; is_range = is.is_range; least = own.0.least });
-    }

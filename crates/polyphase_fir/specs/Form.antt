@@ -1,5 +1,5 @@
 -- What a register holds, as weights of the places of a window.
-use Rattle.std.specs.Prelude.{ℕ, ◌^◌, List, [], ◌∷◌, ◌++◌, replicate, slice_set, slice_index_or, Bool, ℤ, pos, ◌+ℤ◌}
+use Rattle.std.specs.Prelude.{ℕ, ◌^◌, List, [], ◌∷◌, replicate, slice_set, slice_index_or, Bool, ℤ, pos, ◌+ℤ◌}
 use Rattle.mr_values.specs.Digit.{with_sign}
 use Rattle.signed_digit.specs.declared.term_list.Term.{Term}
 use Rattle.pipeline_balance.specs.Leaves.{signed_by}
@@ -20,7 +20,3 @@ with_terms negated form (t ∷ ts) = with_terms negated (with_term negated form 
 -- the weights of these terms, or of their negations where all are negative, over so many places
 abbrev pub form_of : ℕ → List Term → List ℤ
 form_of depth terms = with_terms (all_minus terms) (replicate depth (pos 0)) terms
-
--- the weights of the value that stands so many values before: as many zeros, and a 1
-abbrev pub unit_form : ℕ → List ℤ
-unit_form age = replicate age (pos 0) ++ pos 1 ∷ []

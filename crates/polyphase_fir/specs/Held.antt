@@ -1,5 +1,5 @@
 -- The least widths of the registers of a tree.
-use Rattle.std.specs.Prelude.{◌≡◌, ℕ, suc, ◌+◌, ◌*◌, ◌^◌, ◌<◌, ◌≤◌, List, length, get_or, ℤ, All, Some, slice_get}
+use Rattle.std.specs.Prelude.{◌≡◌, ℕ, suc, ◌+◌, ◌*◌, ◌^◌, ◌<◌, ◌≤◌, List, length, get_or, ℤ, All}
 use Rattle.mr_values.specs.Width.{IsLeastWidth}
 use Rattle.signed_digit.specs.declared.term_list.Term.{Term}
 use Rattle.pipeline_balance.specs.Tree.{level_count, count_to}
@@ -7,7 +7,6 @@ use Rattle.stage_law.specs.Range.{IsRange}
 use Rattle.stage_law.specs.Streams.{Streams, AreWithin}
 use Rattle.stage_law.specs.declared.ranges.Class.{Class}
 use Rattle.stage_law.specs.declared.ranges.Range.{Range}
-use Rattle.polyphase_fir.specs.declared.held.Held.{Held}
 use Rattle.polyphase_fir.specs.Placed.{term_segment, powers}
 use Rattle.polyphase_fir.specs.Form.{form_of}
 
@@ -37,20 +36,8 @@ pub record FitWindow (streams : Streams) (depth : ℕ) (terms : List Term) : Typ
   pub within : AreWithin streams most
   pub room : most * powers terms ≤ 2 ^ 126
 
--- these are the form's sums over the streams, with their range, so many ticks after the stream's value
-pub record IsHeld (streams : Streams) (form : List ℤ) (lag : ℕ) (own : Held) : Type 0 where
-  pub is_form : own.form.items ≡ form
-  pub is_lag : own.lag ≡ lag
-  pub is_range : IsRange streams form every own.range
-
--- what the registers of a tree over these terms hold, level by level
-pub record AreTreeForms (streams : Streams) (depth : ℕ) (terms : List Term) (levels : ℕ) (held : List Held) : Type 0 where
-  pub count : length held ≡ count_to (length terms) levels
-  pub each : (level j : ℕ) (own : Held) → level < levels → j < level_count (length terms) (suc level) → slice_get held (count_to (length terms) level + j) ≡ Some own
-      → IsHeld streams (form_of depth (term_segment (suc level) j terms)) (level + 2) own
-
--- the new list has what the first registers of one level more hold
-pub record AddsForms (streams : Streams) (depth : ℕ) (terms : List Term) (level count : ℕ) (old new : List Held) : Type 0 where
+-- the new list has the widths of the first registers of one level more
+pub record AddsWidths (streams : Streams) (depth : ℕ) (terms : List Term) (level count : ℕ) (old new : List ℕ) : Type 0 where
   pub long : length new ≡ length old + count
-  pub kept : (k : ℕ) (own : Held) → k < length old → slice_get new k ≡ Some own → slice_get old k ≡ Some own
-  pub each : (j : ℕ) (own : Held) → j < count → slice_get new (length old + j) ≡ Some own → IsHeld streams (form_of depth (term_segment (suc level) j terms)) (level + 2) own
+  pub kept : (k : ℕ) → k < length old → get_or new k 0 ≡ get_or old k 0
+  pub each : (j : ℕ) → j < count → IsFormWidth streams (form_of depth (term_segment (suc level) j terms)) (get_or new (length old + j) 0)

@@ -1,7 +1,6 @@
 pub mod Placed
 pub mod Form
 pub mod Held
-pub mod Peaks
 pub mod Sums
 pub mod Cutting
 pub mod Roots

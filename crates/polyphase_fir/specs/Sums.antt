@@ -1,5 +1,5 @@
 -- The tree of a phase over a window.
-use Rattle.std.specs.Prelude.{◌≡◌, ℕ, suc, ◌+◌, ◌^◌, ◌<◌, ◌≤◌, List, length, map, get_or, All, true, Some, slice_get}
+use Rattle.std.specs.Prelude.{◌≡◌, ℕ, ◌^◌, ◌≤◌, List, length, map, All, true}
 use Rattle.net_graph.specs.declared.cell.Cell.{Cell}
 use Rattle.net_graph.specs.declared.cell.Node.{Node}
 use Rattle.net_graph.specs.Cells.{NetView}
@@ -7,22 +7,17 @@ use Rattle.net_graph.specs.Depth.{IsShallow}
 use Rattle.signed_digit.specs.declared.term_list.Term.{Term}
 use Rattle.pipeline_balance.specs.Leaves.{IsLeaf, IsNegatable}
 use Rattle.pipeline_balance.specs.Shallow.{ArePlain}
-use Rattle.pipeline_balance.specs.Tree.{IsTree, level_count, count_to}
+use Rattle.pipeline_balance.specs.Tree.{IsTree}
 use Rattle.stage_law.specs.Streams.{Streams}
-use Rattle.stage_law.specs.declared.stage.Peak.{Peak}
-use Rattle.polyphase_fir.specs.Placed.{leaf_of, all_minus, term_segment}
+use Rattle.polyphase_fir.specs.Placed.{leaf_of, all_minus}
 use Rattle.polyphase_fir.specs.Held.{AreTreeWidths, FitWindow, IsFormWidth}
 use Rattle.polyphase_fir.specs.Form.{form_of}
-use Rattle.polyphase_fir.specs.Peaks.{IsTold}
 
--- The new net has the tree of these terms over the window's nodes, whose registers have the least widths for what they hold over the
--- streams. The list tells their peaks.
-pub record AddsTree (streams : Streams) (old new : NetView) (window : List Node) (terms : List Term) (levels : ℕ) (peaks : List Peak) (registers : List Node) (root : Node) : Type 0 where
+-- the new net has the tree of these terms over the window's nodes, whose registers have the least widths for what they hold over the streams
+pub record AddsTree (streams : Streams) (old new : NetView) (window : List Node) (terms : List Term) (levels : ℕ) (registers : List Node) (root : Node) : Type 0 where
   pub widths : List ℕ
   pub least : AreTreeWidths streams (length window) terms levels widths
   pub tree : IsTree old new (map (leaf_of window) terms) widths levels registers root
-  pub told : (level j : ℕ) (node : Node) → level < levels → j < level_count (length terms) (suc level) → slice_get registers (count_to (length terms) level + j) ≡ Some node
-      → IsTold streams peaks node (form_of (length window) (term_segment (suc level) j terms)) (level + 2) (get_or widths (count_to (length terms) level + j) 0)
 
 -- the new net is shallow where the old was and no adder stood before the window's nodes
 pub record SumsWindow (old new : NetView) (window : List Node) : Type 0 where

@@ -2,7 +2,7 @@
 
 ghost use Rattle.std.specs.Prelude.{◌≡◌, ℕ, ◌^◌, ◌<◌, ◌≤◌, All, IfOk, length, pos, slice_index_or, unsigned_abs, ◌↔◌, IsTrue, true};
 ghost use Rattle.polyphase_fir.specs.Placed.{all_minus, powers};
-ghost use Rattle.polyphase_fir.specs.Form.{power_of, with_term, form_of, unit_form};
+ghost use Rattle.polyphase_fir.specs.Form.{power_of, with_term, form_of};
 
 use mr_values::{Memory, power};
 use signed_digit::Term;
@@ -57,14 +57,5 @@ pub(crate) fn form_of(alloc: Global, terms: &[Term], depth: u32) -> Result<Vec<i
     for term in terms {
         add_term(&mut form, *term, negated);
     }
-    Ok(form)
-}
-
-/// The weights of the value that stands so many values before: as many zeros, and a 1.
-pub(crate) fn unit_form(alloc: Global, age: usize) -> Result<Vec<i128>, Memory>
-    ensures { IfOk result (λ form. form.items ≡ unit_form age) }
-{
-    let mut form = vec![in alloc; 0i128; age]?;
-    form.push(1)?;
     Ok(form)
 }

@@ -4,10 +4,8 @@
 mod counts;
 mod cutting;
 mod forms;
-mod held;
 mod leaves;
 mod numbers;
-mod peaks;
 mod phases;
 mod places;
 mod polyphase;

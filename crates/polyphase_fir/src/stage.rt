@@ -8,7 +8,6 @@ ghost use Rattle.polyphase_fir.specs.Roots.{IsShown};
 ghost use Rattle.polyphase_fir.specs.Stage.{facts_of};
 
 use crate::cutting::cut_window;
-use crate::peaks::window_peaks;
 use crate::phases::shown_root;
 use crate::polyphase::Polyphase;
 use crate::roots::phase_roots;
@@ -79,10 +78,11 @@ impl Stage for Polyphase {
         ranges: &R,
     ) -> Result<Emitted, Memory> {
         let window = cut_window(alloc, net, from, self.depth, ranges)?;
-        let mut peaks = window_peaks(alloc, window.as_slice(), ranges)?;
-        let roots = phase_roots(alloc, net, window.as_slice(), self, ranges, &mut peaks)?;
+        let roots = phase_roots(alloc, net, window.as_slice(), self, ranges)?;
         let stream = self.shown(alloc, net, roots.as_slice(), from)?;
-        net.law_of_nodes();
-        Ok(Emitted { stream, peaks })
+        Ok(Emitted {
+            stream,
+            peaks: Vec::new(alloc),
+        })
     }
 }

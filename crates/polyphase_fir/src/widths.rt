@@ -1,16 +1,13 @@
-// What the registers of a tree hold, and their least widths.
+// The least widths of the registers of a tree.
 
-ghost use Rattle.std.specs.Prelude.{◌≡◌, ℕ, ◌+◌, ◌*◌, ◌^◌, ◌<◌, ◌≤◌, suc, length, map, IfOk};
+ghost use Rattle.std.specs.Prelude.{◌≡◌, ℕ, ◌+◌, ◌^◌, ◌<◌, ◌≤◌, suc, length, IfOk};
 ghost use Rattle.mr_values.specs.Width.{IsLeastWidth};
-ghost use Rattle.stage_law.specs.Streams.{AreWithin, magnitudes};
 ghost use Rattle.pipeline_balance.specs.Tree.{level_count};
 ghost use Rattle.polyphase_fir.specs.Placed.{term_segment};
 ghost use Rattle.polyphase_fir.specs.Form.{form_of};
-ghost use Rattle.polyphase_fir.specs.declared.held.Held.{Held};
-ghost use Rattle.polyphase_fir.specs.Held.{FitWindow, IsHeld, AddsForms, AreTreeForms};
+ghost use Rattle.polyphase_fir.specs.Held.{FitWindow, IsFormWidth, AddsWidths, AreTreeWidths};
 
 use crate::forms::form_of;
-use crate::held::Held;
 use mr_values::{Memory, least_width};
 use signed_digit::Term;
 use stage_law::{Class, Range, Ranges};
@@ -23,38 +20,23 @@ pub(crate) fn width_of(range: Range) -> u8
     least_width(range.lo, range.hi)
 }
 
-/// What a register with the sums of this form holds.
-pub(crate) fn held_form<R: Ranges>(form: Vec<i128>, lag: u64, ranges: &R) -> Held
-    requires { (most : ℕ) × AreWithin (R.streams ranges.now) most × (most * magnitudes form.items ≤ 2 ^ 126) }
-    ensures { IsHeld (R.streams ranges.now) form.items lag result }
+// The least width of a register over these terms.
+fn held_width<R: Ranges>(
+    alloc: Global,
+    terms: &[Term],
+    depth: u32,
+    ranges: &R,
+) -> Result<u8, Memory>
+    requires { FitWindow (R.streams ranges.now) depth terms.now }
+    ensures { IfOk result (IsFormWidth (R.streams ranges.now) (form_of depth terms.now)) }
 {
+    let form = form_of(alloc, terms, depth)?;
     let every = Class {
         modulus: 1,
         residue: 0,
     };
     let range = ranges.range(form.as_slice(), every);
-    let width = width_of(range);
-    Held {
-        form,
-        lag,
-        range,
-        width,
-    }
-}
-
-// What a register over these terms holds.
-fn held_terms<R: Ranges>(
-    alloc: Global,
-    terms: &[Term],
-    depth: u32,
-    lag: u64,
-    ranges: &R,
-) -> Result<Held, Memory>
-    requires { FitWindow (R.streams ranges.now) depth terms.now }
-    ensures { IfOk result (IsHeld (R.streams ranges.now) (form_of depth terms.now) lag) }
-{
-    let form = form_of(alloc, terms, depth)?;
-    Ok(held_form(form, lag, ranges))
+    Ok(width_of(range))
 }
 
 // The terms under the register number j of a level.
@@ -79,10 +61,10 @@ fn count_of(terms: usize, level: u32) -> usize
     (terms + (size - 1)) / size
 }
 
-// What the registers of one level hold, after those of the levels below.
+// The widths of the registers of one level, after those of the levels below.
 fn push_level<R: Ranges>(
     alloc: Global,
-    held: &mut Vec<Held>,
+    widths: &mut Vec<u8>,
     terms: &[Term],
     level: u32,
     depth: u32,
@@ -90,43 +72,32 @@ fn push_level<R: Ranges>(
 ) -> Result<(), Memory>
     requires fits { FitWindow (R.streams ranges.now) depth terms.now }
     requires low { level ≤ 31 }
-    ensures { IfOk result (λ _. AddsForms (R.streams ranges.now) depth terms.now level (level_count (length terms.now) (suc level)) held.old.items held.new.items) }
+    ensures { IfOk result (λ _. AddsWidths (R.streams ranges.now) depth terms.now level (level_count (length terms.now) (suc level)) widths.old.items widths.new.items) }
 {
     let count = count_of(terms.len(), level);
     for j in 0..count {
         let part = segment_of(terms, level, j);
-        let own = held_terms(alloc, part, depth, u64::from(level) + 2, ranges)?;
-        held.push(own)?;
+        let width = held_width(alloc, part, depth, ranges)?;
+        widths.push(width)?;
     }
     Ok(())
 }
 
-/// What the registers of a tree over these terms hold, level by level.
-pub(crate) fn tree_forms<R: Ranges>(
+/// The least widths of the registers of a tree over these terms, level by level.
+pub(crate) fn tree_widths<R: Ranges>(
     alloc: Global,
     terms: &[Term],
     levels: u32,
     depth: u32,
     ranges: &R,
-) -> Result<Vec<Held>, Memory>
+) -> Result<Vec<u8>, Memory>
     requires fits { FitWindow (R.streams ranges.now) depth terms.now }
     requires low { levels ≤ 31 }
-    ensures { IfOk result (λ held. AreTreeForms (R.streams ranges.now) depth terms.now levels held.items) }
-{
-    let mut held = Vec::new(alloc);
-    for level in 0..levels {
-        push_level(alloc, &mut held, terms, level, depth, ranges)?;
-    }
-    Ok(held)
-}
-
-/// The least widths of registers that hold these.
-pub(crate) fn widths_of(alloc: Global, held: &[Held]) -> Result<Vec<u8>, Memory>
-    ensures { IfOk result (λ widths. widths.items ≡ map (λ (own : Held). own.width) held.now) }
+    ensures { IfOk result (λ widths. AreTreeWidths (R.streams ranges.now) depth terms.now levels widths.items) }
 {
     let mut widths = Vec::new(alloc);
-    for own in held {
-        widths.push(own.width)?;
+    for level in 0..levels {
+        push_level(alloc, &mut widths, terms, level, depth, ranges)?;
     }
     Ok(widths)
 }

@@ -1,4 +1,4 @@
-use Rattle.std.proofs.Common.{◌≡◌, ◌<◌, ◌∙◌, ap, sym, refl, arith, subst, ℕ, List, length, length-append, ◌∷◌, [], All}
+use Rattle.std.proofs.Common.{◌≡◌, ◌<◌, ◌∙◌, ap, sym, refl, arith, subst, ℕ, List, length, length-append, ◌∷◌, []}
 use Rattle.mr_values.specs.Timing.{ceil_div}
 use Rattle.net_graph.specs.declared.cell.Node.{Node}
 use Rattle.net_graph.proofs.NetLemmas.{Extends-refl, Extends-trans}
@@ -6,8 +6,6 @@ use Rattle.signed_digit.specs.declared.term_list.Term.{Term}
 use Rattle.polyphase_fir.specs.Placed.{placed_terms}
 use Rattle.polyphase_fir.specs.Sums.{AddsTree}
 use Rattle.polyphase_fir.specs.Roots.{AddsRoots}
-use Rattle.polyphase_fir.proofs.DueLemmas.{AddsRegisters-none, AddsRegisters-push}
-use Rattle.polyphase_fir.proofs.TermLemmas.{placed_below}
 use Rattle.polyphase_fir.proofs.PhaseBounds.{IsReady-placed}
 use Rattle.polyphase_fir.proofs.RootLemmas.{IsWideWindow-later, IsCutWindow-later, AddsRoots-none, AddsRoots-push, SumsWindow-none, SumsWindow-push}
 use Rattle.polyphase_fir.proofs.roots.phase_roots.Goals as goal
@@ -18,7 +16,6 @@ loop-phase-init g c = record {
   group = refl;
   extends = Extends-refl _;
   trees = λ from positive w. rw c.new-roots.ensures.items (AddsRoots-none _ _ _ _ _ _);
-  registers = λ from positive w. AddsRegisters-none (g.R.Ranges.streams c.args.ranges.now) c.args.net.now from (length c.args.window.now) c.args.filter.now.levels c.args.peaks.now.items;
   shallow = SumsWindow-none c.args.net.now c.args.window.now;
 }
 
@@ -53,10 +50,8 @@ loop-phase-preserved g c =
     let many = i.many in
     let terms_are = c.as_slice-in-loop-phase.ensures.value ∙ c.in_ok-terms.ensures ∙ ap (placed_terms p.rates.up c.loop-phase.phase) c.as_slice.ensures.value ∙ ap (λ (r : ℕ). placed_terms p.rates.up r p.taps.items) (sym many) in
     let long : ceil_div (length p.taps.items) p.rates.up ≡ length c.args.window.now = sym p.is_depth ∙ sym c.requires.deep in
-    let tree = subst (λ (ts : List Term). AddsTree streams c.loop-phase.net c.phase_tree.new.net c.args.window.now ts p.levels c.phase_tree.new.peaks.items c.in_ok-sum.sum.registers.items c.in_ok-sum.sum.root) terms_are c.in_ok-sum.ensures.ok in
+    let tree = subst (λ (ts : List Term). AddsTree streams c.loop-phase.net c.phase_tree.new.net c.args.window.now ts p.levels c.in_ok-sum.sum.registers.items c.in_ok-sum.sum.root) terms_are c.in_ok-sum.ensures.ok in
     let inside : length c.loop-phase.roots.items < p.rates.up = let test = c.loop-phase-test.true in omega arith in
-    let places : All (λ (u : Term). u.index < length c.args.window.now) (placed_terms p.rates.up (length c.loop-phase.roots.items) p.taps.items) =
-    subst (λ (n : ℕ). All (λ (u : Term). u.index < n) (placed_terms p.rates.up (length c.loop-phase.roots.items) p.taps.items)) long (placed_below p.rates.up (length c.loop-phase.roots.items) p.taps.items p.up_low) in
     record {
       many = omega (arith, ap length items, length-append c.loop-phase.roots.items (c.in_ok-sum.sum.root ∷ []), many);
       group = c.in_ok-sum.ensures.group ∙ i.group;
@@ -64,7 +59,5 @@ loop-phase-preserved g c =
       trees = λ from positive w.
           subst (λ (roots : List Node). AddsRoots streams c.args.net.now c.phase_tree.new.net from p.levels p.taps.items p.rates.up roots) (sym items)
           (AddsRoots-push streams (g.met.R.Ranges.causal c.args.ranges.now) p.taps.items p.rates.up inside positive (IsCutWindow-later streams i.extends w) long (i.trees from positive w) tree);
-      registers = λ from positive w.
-          AddsRegisters-push streams (g.met.R.Ranges.causal c.args.ranges.now) positive (IsCutWindow-later streams i.extends w) places i.group (i.registers from positive w) c.in_ok-sum.ensures.peaks tree;
       shallow = SumsWindow-push streams p.taps.items p.rates.up (length c.loop-phase.roots.items) inside long i.group i.extends i.shallow tree;
     }

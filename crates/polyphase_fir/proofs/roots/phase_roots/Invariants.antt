@@ -2,7 +2,6 @@ use Rattle.std.proofs.Common.{◌≡◌, ◌≤◌, length}
 use Rattle.net_graph.specs.declared.cell.Stream.{Stream}
 use Rattle.net_graph.specs.Grow.{Extends}
 use Rattle.polyphase_fir.specs.Cutting.{IsCutWindow}
-use Rattle.polyphase_fir.specs.Peaks.{AddsRegisters}
 use Rattle.polyphase_fir.specs.Roots.{AddsRoots}
 use Rattle.polyphase_fir.specs.Sums.{SumsWindow}
 use Rattle.polyphase_fir.proofs.roots.phase_roots.Given as goal
@@ -15,7 +14,5 @@ invariant-loop-phase g l = record {
   extends : Extends l.fn.net.cells l.net.cells;
   trees : (from : Stream) → 1 ≤ from.period → IsCutWindow (g.R.Ranges.streams l.ranges) l.fn.net.cells from l.window
       → AddsRoots (g.R.Ranges.streams l.ranges) l.fn.net l.net from l.filter.levels l.filter.taps.items l.filter.rates.up l.roots.items;
-  registers : (from : Stream) → 1 ≤ from.period → IsCutWindow (g.R.Ranges.streams l.ranges) l.fn.net.cells from l.window
-      → AddsRegisters (g.R.Ranges.streams l.ranges) l.fn.net l.net from (length l.window) l.filter.levels l.fn.peaks.items l.peaks.items;
   shallow : SumsWindow l.fn.net l.net l.window;
 }

@@ -3,23 +3,19 @@ use Rattle.mr_values.specs.Timing.{ceil_div}
 use Rattle.net_graph.specs.declared.cell.Node.{Node}
 use Rattle.net_graph.proofs.NetLemmas.{Extends-trans}
 use Rattle.polyphase_fir.specs.Cutting.{IsWideWindow, IsCutWindow}
-use Rattle.polyphase_fir.specs.Peaks.{TellsWindow, AddsRegisters}
 use Rattle.polyphase_fir.specs.Roots.{IsShown}
 use Rattle.polyphase_fir.specs.Sums.{SumsWindow}
 use Rattle.polyphase_fir.proofs.RealisesLemmas.{Realises-phases}
 use Rattle.polyphase_fir.proofs.stage.PolyphaseStage.emit.Goals as goal
 
-pub window_peaks-requires : goal.window_peaks-requires
-window_peaks-requires g c = (c.requires.room.most, c.requires.room.within, c.requires.room.before)
-
 pub phase_roots-requires-clause-data_group : goal.phase_roots-requires-clause-data_group
 phase_roots-requires-clause-data_group g c = rw c.in_ok-window.ensures.group c.requires.group
 
 pub phase_roots-requires-clause-deep : goal.phase_roots-requires-clause-deep
-phase_roots-requires-clause-deep g c = ap length c.as_slice-2.ensures.value ∙ c.in_ok-window.ensures.many
+phase_roots-requires-clause-deep g c = ap length c.as_slice.ensures.value ∙ c.in_ok-window.ensures.many
 
 pub phase_roots-requires-clause-wide : goal.phase_roots-requires-clause-wide
-phase_roots-requires-clause-wide g c = subst (λ (nodes : List Node). IsWideWindow (g.R.Ranges.streams c.args.ranges.now) c.cut_window.new.net.cells nodes) (sym c.as_slice-2.ensures.value) c.in_ok-window.ensures.ok.wide
+phase_roots-requires-clause-wide g c = subst (λ (nodes : List Node). IsWideWindow (g.R.Ranges.streams c.args.ranges.now) c.cut_window.new.net.cells nodes) (sym c.as_slice.ensures.value) c.in_ok-window.ensures.ok.wide
 
 pub returns-in_err-roots-clause-extends : goal.returns-in_err-roots-clause-extends
 returns-in_err-roots-clause-extends g c = Extends-trans _ _ _ c.in_ok-window.ensures.extends c.in_err-roots.ensures.extends
@@ -30,12 +26,12 @@ shown-requires-clause-data_group g c = rw (c.in_ok-roots.ensures.group, c.in_ok-
 pub shown-requires-clause-within : goal.shown-requires-clause-within
 shown-requires-clause-within g c r root is =
     let streams = g.R.Ranges.streams c.args.ranges.now in
-    let window = subst (λ (nodes : List Node). IsCutWindow streams c.cut_window.new.net.cells c.args.from nodes) (sym c.as_slice-2.ensures.value) c.in_ok-window.ensures.ok.window in
+    let window = subst (λ (nodes : List Node). IsCutWindow streams c.cut_window.new.net.cells c.args.from nodes) (sym c.as_slice.ensures.value) c.in_ok-window.ensures.ok.window in
     let trees = c.in_ok-roots.ensures.ok c.args.from c.requires.takes.some window in
-    (trees.each r root (subst (λ (nodes : List Node). slice_get nodes r ≡ Some root) c.as_slice-3.ensures.value is)).within
+    (trees.each r root (subst (λ (nodes : List Node). slice_get nodes r ≡ Some root) c.as_slice-2.ensures.value is)).within
 
 pub shown-requires-clause-all : goal.shown-requires-clause-all
-shown-requires-clause-all g c = ap length c.as_slice-3.ensures.value ∙ c.in_ok-roots.ensures.many
+shown-requires-clause-all g c = ap length c.as_slice-2.ensures.value ∙ c.in_ok-roots.ensures.many
 
 pub returns-in_err-stream-clause-extends : goal.returns-in_err-stream-clause-extends
 returns-in_err-stream-clause-extends g c = Extends-trans _ _ _ c.in_ok-window.ensures.extends (Extends-trans _ _ _ c.in_ok-roots.ensures.extends c.in_err-stream.ensures.extends)
@@ -47,14 +43,9 @@ pub returns-clause-realises : goal.returns-clause-realises
 returns-clause-realises g c =
     let p = c.args.self.now in
     let streams = g.R.Ranges.streams c.args.ranges.now in
-    let window = subst (λ (nodes : List Node). IsCutWindow streams c.cut_window.new.net.cells c.args.from nodes) (sym c.as_slice-2.ensures.value) c.in_ok-window.ensures.ok.window in
+    let window = subst (λ (nodes : List Node). IsCutWindow streams c.cut_window.new.net.cells c.args.from nodes) (sym c.as_slice.ensures.value) c.in_ok-window.ensures.ok.window in
     let trees = c.in_ok-roots.ensures.ok c.args.from c.requires.takes.some window in
-    let shown = subst (λ (nodes : List Node). IsShown c.phase_roots.new.net c.shown.new.net nodes p.rates.up p.rates.down c.args.from p.levels c.in_ok-stream.stream) c.as_slice-3.ensures.value c.in_ok-stream.ensures.ok in
-    let sums = subst (λ (nodes : List Node). SumsWindow c.cut_window.new.net c.phase_roots.new.net nodes) c.as_slice-2.ensures.value c.in_ok-roots.ensures.shallow in
+    let shown = subst (λ (nodes : List Node). IsShown c.phase_roots.new.net c.shown.new.net nodes p.rates.up p.rates.down c.args.from p.levels c.in_ok-stream.stream) c.as_slice-2.ensures.value c.in_ok-stream.ensures.ok in
+    let sums = subst (λ (nodes : List Node). SumsWindow c.cut_window.new.net c.phase_roots.new.net nodes) c.as_slice.ensures.value c.in_ok-roots.ensures.shallow in
     let long : ceil_div (length p.taps.items) p.rates.up ≡ length c.in_ok-window.window.items = sym p.is_depth ∙ sym c.in_ok-window.ensures.many in
-    let tells = subst (λ (nodes : List Node). TellsWindow streams nodes (length nodes) c.in_ok-peaks.peaks.items) c.as_slice.ensures.value c.in_ok-peaks.ensures in
-    let registers =
-    subst (λ (nodes : List Node). AddsRegisters streams c.cut_window.new.net c.phase_roots.new.net c.args.from (length nodes) p.levels c.in_ok-peaks.peaks.items c.phase_roots.new.peaks.items) c.as_slice-2.ensures.value
-    (c.in_ok-roots.ensures.registers c.args.from c.requires.takes.some window) in
-    Realises-phases streams p.taps.items p.rates.up p.rates.down p.up_low c.requires.takes.some c.requires.group c.in_ok-window.ensures.ok long trees c.in_ok-roots.ensures.many shown sums p.is_levels _ refl (g.met.R.Ranges.causal c.args.ranges.now) c.requires.unused
-    c.law_of_nodes.ensures c.in_ok-peaks.peaks.items tells registers
+    Realises-phases streams p.taps.items p.rates.up p.rates.down p.up_low c.requires.takes.some c.requires.group c.in_ok-window.ensures.ok long trees c.in_ok-roots.ensures.many shown sums p.is_levels _ refl
