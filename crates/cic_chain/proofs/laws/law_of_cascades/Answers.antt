@@ -1,0 +1,16 @@
+use Rattle.cic_chain.proofs.WholeLemmas.{whole_down}
+use Rattle.cic_chain.proofs.WrapLemmas.{wrapped_down}
+use Rattle.cic_chain.proofs.UpLemmas.{whole_up, wrapped_up}
+use Rattle.cic_chain.proofs.laws.law_of_cascades.Goals as goal
+
+pub returns-clause-whole_down : goal.returns-clause-whole_down
+returns-clause-whole_down c = whole_down
+
+pub returns-clause-whole_up : goal.returns-clause-whole_up
+returns-clause-whole_up c = whole_up
+
+pub returns-clause-wrapped_down : goal.returns-clause-wrapped_down
+returns-clause-wrapped_down c = wrapped_down
+
+pub returns-clause-wrapped_up : goal.returns-clause-wrapped_up
+returns-clause-wrapped_up c = wrapped_up
