@@ -3,4 +3,5 @@ pub mod Kinds
 pub mod Least
 pub mod Range
 pub mod Realises
+pub mod Registers
 pub mod Streams
