@@ -11,7 +11,7 @@ use crate::widths::width_of;
 use mr_values::Memory;
 use net_graph::{Net, Node, Stream};
 use pipeline_balance::window;
-use stage_law::{Class, Ranges};
+use stage_law::{Class, Ranges, WeightedSum};
 use std::alloc::Global;
 
 // The node, cut to this width where it is wider.
@@ -53,7 +53,8 @@ pub(crate) fn cut_window<R: Ranges>(
         modulus: 1,
         residue: 0,
     };
-    let range = ranges.range(&[1], every);
+    let value = WeightedSum::value(alloc, 0)?;
+    let range = ranges.range(&value, every);
     let width = width_of(range);
     let node = narrowed(net, from.node, width)?;
     let taken = Stream {

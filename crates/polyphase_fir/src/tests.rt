@@ -4,7 +4,7 @@ ghost use Rattle.std.specs.Prelude.{◌≡◌, ℤ, pos, negsuc};
 
 use crate::Polyphase;
 use net_graph::{Net, Stream};
-use stage_law::{Class, Range, Ranges, Rates, Stage};
+use stage_law::{Class, Range, Ranges, Rates, Stage, WeightedSum};
 use std::test::Fail;
 
 // Knows the one stream of zeros.
@@ -19,7 +19,7 @@ impl Ranges for Silent {
 
     ghost causal = { λ _. record { each = λ v is n. is (negsuc n) } };
 
-    fn range(&self, _form: &[i128], _class: Class) -> Range {
+    fn range(&self, _sum: &WeightedSum, _class: Class) -> Range {
         self.range
     }
 }

@@ -10,7 +10,7 @@ ghost use Rattle.polyphase_fir.specs.Held.{FitWindow, IsFormWidth, AddsWidths, A
 use crate::forms::form_of;
 use mr_values::{Memory, least_width};
 use signed_digit::Term;
-use stage_law::{Class, Range, Ranges};
+use stage_law::{Class, Range, Ranges, WeightedSum};
 use std::alloc::Global;
 
 /// The least number of bits that holds the range.
@@ -30,12 +30,13 @@ fn held_width<R: Ranges>(
     requires { FitWindow (R.streams ranges.now) depth terms.now }
     ensures { IfOk result (IsFormWidth (R.streams ranges.now) (form_of depth terms.now)) }
 {
-    let form = form_of(alloc, terms, depth)?;
+    let weights = form_of(alloc, terms, depth)?;
+    let sum = WeightedSum { behind: 0, weights };
     let every = Class {
         modulus: 1,
         residue: 0,
     };
-    let range = ranges.range(form.as_slice(), every);
+    let range = ranges.range(&sum, every);
     Ok(width_of(range))
 }
 

@@ -42,6 +42,9 @@ in_every : (k : ℕ) → k % 1 ≡ 0
 in_every k = omega arith
 
 -- the values of the streams lie in the range of the form 1
+pub value_range : {streams : Streams} {form : List ℤ} {range : Range} → form ≡ one → IsRange streams form every range → IsRange streams one every range
+value_range {streams} {form} {range} e r = subst (λ (ws : List ℤ). IsRange streams ws every range) e r
+
 pub value_low : (streams : Streams) (range : Range) → IsRange streams one every range → (v : Sequence) → streams v → (k : ℕ) → range.lo ≤ℤ v (pos k)
 value_low streams range r v is k = subst (λ (z : ℤ). range.lo ≤ℤ z) (value_is v k) (r.low v is k (in_every k))
 

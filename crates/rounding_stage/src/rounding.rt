@@ -10,7 +10,7 @@ ghost use Rattle.rounding_stage.specs.Rounding.{rounding_facts, rounding_adders,
 use crate::register::held;
 use mr_values::{Memory, Mode, floor_shift, least_width, power};
 use net_graph::{Net, Node, Stream};
-use stage_law::{Class, Cost, Emitted, Kind, Range, Ranges, Rates, Stage};
+use stage_law::{Class, Cost, Emitted, Kind, Range, Ranges, Rates, Stage, WeightedSum};
 use std::alloc::Global;
 
 /// Divides by `2^shift` and rounds.
@@ -172,7 +172,8 @@ impl Stage for Rounding {
             modulus: 1,
             residue: 0,
         };
-        let range = ranges.range(&[1], every);
+        let value = WeightedSum::value(alloc, 0)?;
+        let range = ranges.range(&value, every);
         let node = rounded(net, from.node, self.mode, self.shift, range)?;
         let sum = Stream {
             node,

@@ -1,5 +1,5 @@
 -- Sums of a form over the ends of a span.
-use Rattle.std.proofs.Common.{◌≡◌, ℕ, zero, suc, ◌+◌, ◌*◌, ◌≤◌, ◌<◌, ◌^◌, max, List, [], ◌∷◌, length, drop, get_or, refl, sym, ◌∙◌, ap, subst, arith, ℤ, pos, negsuc, ◌+ℤ◌, ◌*ℤ◌, ◌≤ℤ◌, ◌<ℤ◌, to_z, of_z, FitsSigned}
+use Rattle.std.proofs.Common.{◌≡◌, ℕ, zero, suc, ◌+◌, ◌*◌, ◌≤◌, ◌<◌, ◌^◌, max, List, [], ◌∷◌, ◌++◌, replicate, zero-add, length, drop, get_or, refl, sym, ◌∙◌, ap, subst, arith, ℤ, pos, negsuc, ◌+ℤ◌, ◌*ℤ◌, ◌≤ℤ◌, ◌<ℤ◌, to_z, of_z, FitsSigned}
 use Rattle.std.specs.Prelude.{unsigned_abs}
 use Rattle.std.proofs.lemmas.Int.{ints, unsigned_abs-mul, fits_signed_mul, to_z-of_z}
 use mir.Syntax.{w128}
@@ -30,6 +30,19 @@ sum-ends (c ∷ cs) low high f e =
 pub high_end-turned : (form : List ℤ) (low high : ℤ) → low_end form high low ≡ high_end form low high
 high_end-turned [] low high = refl
 high_end-turned (c ∷ cs) low high = ap (λ (z : ℤ). least_term high low c +ℤ z) (high_end-turned cs low high)
+
+-- ---- zeros in front
+
+zero_times : (z : ℤ) → pos 0 *ℤ z ≡ pos 0
+zero_times z = grind (arith, ints)
+
+pub low_end-zeros : (n : ℕ) (weights : List ℤ) (low high : ℤ) → low_end (replicate n (pos 0) ++ weights) low high ≡ low_end weights low high
+low_end-zeros zero weights low high = refl
+low_end-zeros (suc n) weights low high = omega (arith, ints, low_end-zeros n weights low high, zero_times low)
+
+pub magnitudes-zeros : (n : ℕ) (weights : List ℤ) → magnitudes (replicate n (pos 0) ++ weights) ≡ magnitudes weights
+magnitudes-zeros zero weights = refl
+magnitudes-zeros (suc n) weights = zero-add (magnitudes (replicate n (pos 0) ++ weights)) ∙ magnitudes-zeros n weights
 
 -- ---- products
 

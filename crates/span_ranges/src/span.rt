@@ -4,7 +4,7 @@ ghost use Rattle.std.specs.Prelude.{◌≡◌, ◌+◌, ◌*◌, ◌≤◌, ◌^
 ghost use Rattle.mr_values.specs.Timing.{least_term, low_end, high_end};
 ghost use Rattle.stage_law.specs.Streams.{magnitudes};
 
-use stage_law::{Class, Range, Ranges};
+use stage_law::{Class, Range, Ranges, WeightedSum};
 
 /// Knows all streams that are 0 before they begin and whose values lie from `low` to `high`.
 #[derive(Clone, Copy, Debug, PartialEq, Eq)]
@@ -56,13 +56,13 @@ fn with_term(sum: i128, term: i128) -> i128
     sum + term
 }
 
-// The least sum of the form over numbers from `low` to `high`.
-fn least_sum(form: &[i128], low: i128, high: i128) -> i128
-    requires { max (unsigned_abs low) (unsigned_abs high) * magnitudes form.now ≤ 2 ^ 126 }
-    ensures { result ≡ low_end form.now low high }
+// The least sum of these weights over numbers from `low` to `high`.
+fn least_sum(weights: &[i128], low: i128, high: i128) -> i128
+    requires { max (unsigned_abs low) (unsigned_abs high) * magnitudes weights.now ≤ 2 ^ 126 }
+    ensures { result ≡ low_end weights.now low high }
 {
     let mut sum = 0i128;
-    for factor in form {
+    for factor in weights {
         let term = least_product(*factor, low, high);
         sum = with_term(sum, term);
     }
@@ -76,10 +76,11 @@ impl Ranges for SpanRanges {
 
     ghost causal = { λ ranges. record { each = λ v is n. is.causal n } };
 
-    fn range(&self, form: &[i128], _class: Class) -> Range {
+    fn range(&self, sum: &WeightedSum, _class: Class) -> Range {
+        let weights = sum.weights.as_slice();
         Range {
-            lo: least_sum(form, self.low, self.high),
-            hi: least_sum(form, self.high, self.low),
+            lo: least_sum(weights, self.low, self.high),
+            hi: least_sum(weights, self.high, self.low),
         }
     }
 }

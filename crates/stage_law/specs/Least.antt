@@ -14,6 +14,7 @@ use Rattle.pipeline_balance.specs.Gate.{Carries}
 use Rattle.stage_law.specs.Facts.{StageFacts}
 use Rattle.stage_law.specs.Range.{InClass, IsRange}
 use Rattle.stage_law.specs.Streams.{Streams}
+use Rattle.stage_law.specs.Weights.{weights_of}
 use Rattle.stage_law.specs.declared.ranges.Range.{Range}
 use Rattle.stage_law.specs.declared.stage.Peak.{Peak}
 
@@ -36,17 +37,17 @@ pub record IsKeptWhole (streams : Streams) (cells : List Cell) (from : Stream) (
 abbrev pub end_of : Bool → Range → ℤ
 end_of high range = if high then range.hi else range.lo
 
--- the register holds the form's sums, and the end of their range that is named doesn't fit one bit less than its width
+-- the register holds the sum, and the end of its range that is named doesn't fit one bit less than its width
 pub record IsPeak (facts : StageFacts) (streams : Streams) (cells : List Cell) (from : Stream) (width : ℕ) (peak : Peak) : Type 0 where
   pub class : peak.class.residue < peak.class.modulus
   pub holds : (cut : Cut) → IsCut cut → (inputs : ℕ → ℤ) (values : Values) (v : Sequence) → streams v → IsRun cut cells inputs values → Carries values from v
-      → (k : ℕ) → InClass peak.class k → values (from.offset + k * from.period + peak.lag) peak.register.place ≡ filter peak.form.items v (pos k)
+      → (k : ℕ) → InClass peak.class k → values (from.offset + k * from.period + peak.lag) peak.register.place ≡ filter (weights_of peak.sum) v (pos k)
   pub soon : peak.lag ≤ from.period + facts.delay from.period
-  pub short : length peak.form.items ≤ facts.longest
+  pub short : length (weights_of peak.sum) ≤ facts.longest
   pub times : ℕ
   pub divides : facts.down ≡ times * peak.class.modulus
   pub range : Range
-  pub is_range : IsRange streams peak.form.items peak.class range
+  pub is_range : IsRange streams (weights_of peak.sum) peak.class range
   pub least : FitsWidth (width - 1) (end_of peak.high range) → ⊥
 
 -- the register has the least width: 1, or there is a peak of it

@@ -5,3 +5,4 @@ pub mod Range
 pub mod Realises
 pub mod Registers
 pub mod Streams
+pub mod Weights

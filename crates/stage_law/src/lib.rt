@@ -4,5 +4,5 @@
 mod ranges;
 mod stage;
 
-pub use ranges::{Class, Range, Ranges};
+pub use ranges::{Class, Range, Ranges, WeightedSum};
 pub use stage::{Cost, Emitted, Kind, Peak, Rates, Stage};

@@ -1,8 +1,12 @@
-// Which sums a form takes over the streams of a chain.
+// Which values a weighted sum takes over the streams of a chain.
 
-ghost use Rattle.std.specs.Prelude.{◌≡◌, ℕ, ◌<◌, ◌*◌, ◌≤◌, ◌^◌};
+ghost use Rattle.std.specs.Prelude.{◌≡◌, ℕ, ◌<◌, ◌*◌, ◌≤◌, ◌^◌, ◌++◌, ◌∷◌, [], pos, replicate, IfOk};
 ghost use Rattle.stage_law.specs.Streams.{AreWithin, AreCausal, Streams, magnitudes};
 ghost use Rattle.stage_law.specs.Range.{IsRange};
+ghost use Rattle.stage_law.specs.Weights.{weights_of};
+
+use mr_values::Memory;
+use std::alloc::Global;
 
 /// The indices k with `k mod modulus = residue`.
 #[derive(Clone, Copy, Debug, PartialEq, Eq)]
@@ -18,15 +22,32 @@ pub struct Range {
     pub hi: i128,
 }
 
+/// A weighted sum over a stream: at index k the sum of `weights[i] * v[k - behind - i]`.
+#[derive(Drop)]
+pub struct WeightedSum {
+    pub behind: u64,
+    pub weights: Vec<i128>,
+}
+
+impl WeightedSum {
+    /// The one value that came so many values before.
+    pub fn value(alloc: Global, behind: u64) -> Result<WeightedSum, Memory>
+        ensures { IfOk result (λ sum. weights_of sum ≡ replicate behind (pos 0) ++ (pos 1 ∷ [])) }
+    {
+        let weights = vec![in alloc; 1i128]?;
+        Ok(WeightedSum { behind, weights })
+    }
+}
+
 /// Knows a set of streams, which are 0 before they begin, and the range of each sum over them.
 pub trait Ranges {
     ghost streams: { Self → Streams };
 
-    /// The least and the greatest sum of `form[i] * v[k - i]` over the streams v and the indices k of the class. It takes no memory.
-    fn range(&self, form: &[i128], class: Class) -> Range
+    /// The least and the greatest value of the sum over the streams and the indices of the class. It takes no memory.
+    fn range(&self, sum: &WeightedSum, class: Class) -> Range
         requires class { class.residue < class.modulus }
-        requires room { (m : ℕ) × AreWithin (streams self.now) m × (m * magnitudes form.now ≤ 2 ^ 126) }
-        ensures { IsRange (streams self.now) form.now class result };
+        requires room { (m : ℕ) × AreWithin (streams self.now) m × (m * magnitudes (weights_of sum.now) ≤ 2 ^ 126) }
+        ensures { IsRange (streams self.now) (weights_of sum.now) class result };
 
     ghost causal: { (ranges : Self) → AreCausal (streams ranges) };
 }

@@ -7,7 +7,7 @@ ghost use Rattle.stage_law.specs.Facts.{StageFacts};
 ghost use Rattle.stage_law.specs.Streams.{HasRoom};
 ghost use Rattle.stage_law.specs.Realises.{Realises, IsUnused};
 
-use crate::ranges::{Class, Ranges};
+use crate::ranges::{Class, Ranges, WeightedSum};
 use mr_values::Memory;
 use net_graph::{Net, Node, Stream};
 use std::alloc::Global;
@@ -40,12 +40,12 @@ pub struct Cost {
     pub tables: u64,
 }
 
-/// What needs a register's width: `lag` ticks after value k of the stream, k of the class, it holds the form's sum there, and
-/// the greatest of these sums, or else the least, does not fit one bit less.
+/// What needs a register's width: `lag` ticks after value k of the stream, k of the class, it holds the sum there, and the
+/// greatest of these, or else the least, does not fit one bit less.
 #[derive(Drop)]
 pub struct Peak {
     pub register: Node,
-    pub form: Vec<i128>,
+    pub sum: WeightedSum,
     pub class: Class,
     pub lag: u64,
     pub high: bool,

@@ -12,7 +12,7 @@ pub loop-factor-preserved : goal.loop-factor-preserved
 loop-factor-preserved c =
     let l = c.ranges.low in
     let h = c.ranges.high in
-    let form = c.args.form.now in
+    let form = c.args.weights.now in
     let i = c.loop-factor.factor-index in
     let factor : ℤ = get_or form i (pos 0) in
     let less : i < length form = c.loop-factor-test.true in

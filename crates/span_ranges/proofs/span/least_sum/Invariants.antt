@@ -7,6 +7,6 @@ use Rattle.span_ranges.proofs.span.least_sum.Given as goal
 -- the sum so far with what is left is the whole, and there is room for what is left
 abbrev pub invariant-loop-factor : goal.invariant-loop-factor
 invariant-loop-factor l = record {
-  whole : l.sum +ℤ low_end (drop l.factor-index l.form) l.low l.high ≡ low_end l.form l.low l.high;
-  room : unsigned_abs l.sum + max (unsigned_abs l.low) (unsigned_abs l.high) * magnitudes (drop l.factor-index l.form) ≤ 2 ^ 126;
+  whole : l.sum +ℤ low_end (drop l.factor-index l.weights) l.low l.high ≡ low_end l.weights l.low l.high;
+  room : unsigned_abs l.sum + max (unsigned_abs l.low) (unsigned_abs l.high) * magnitudes (drop l.factor-index l.weights) ≤ 2 ^ 126;
 }
