@@ -65,7 +65,7 @@ pub length-tabulate : (n : ℕ) (f : ℕ → ℤ) → length (tabulate n f) ≡ 
 length-tabulate zero f = refl
 length-tabulate (suc n) f = ap suc (length-tabulate n (λ k. f (suc k)))
 
-get_or-tabulate : (n : ℕ) (f : ℕ → ℤ) (k : ℕ) (d : ℤ) → k < n → get_or (tabulate n f) k d ≡ f k
+pub get_or-tabulate : (n : ℕ) (f : ℕ → ℤ) (k : ℕ) (d : ℤ) → k < n → get_or (tabulate n f) k d ≡ f k
 get_or-tabulate zero f k d h = absurd (omega arith)
 get_or-tabulate (suc n) f zero d h = refl
 get_or-tabulate (suc n) f (suc k) d h = get_or-tabulate n (λ i. f (suc i)) k d (omega arith)
@@ -74,7 +74,7 @@ length-ends_for : (low high : ℤ) (cs : List ℤ) → length (ends_for low high
 length-ends_for low high [] = refl
 length-ends_for low high (c ∷ cs) = ap suc (length-ends_for low high cs)
 
-samples-history : (newest : ℕ) (cs : List ℤ) (k : ℕ) → length cs ≤ suc newest → samples (history newest cs) (pos newest -ℤ pos k) ≡ get_or cs k (pos 0)
+pub samples-history : (newest : ℕ) (cs : List ℤ) (k : ℕ) → length cs ≤ suc newest → samples (history newest cs) (pos newest -ℤ pos k) ≡ get_or cs k (pos 0)
 samples-history newest cs k h = at (pos newest -ℤ pos k) refl
   where
     at : (z : ℤ) → pos newest -ℤ pos k ≡ z → samples (history newest cs) z ≡ get_or cs k (pos 0)

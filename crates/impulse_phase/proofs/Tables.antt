@@ -87,7 +87,7 @@ passes change turn before after transform law are same = record {
   cycle = ap (λ (n : ℕ). record { classes = n; step = after.step }) are.count_is ∙ ap (λ (n : ℕ). record { classes = (turn (cycle_of before)).classes; step = n }) same;
 }
 
-told_at : (rows : List Response) (step : ℕ) (n q : ℤ) (r : ℕ) → r < length rows → n ≡ q *ℤ pos (length rows) +ℤ pos r
+pub told_at : (rows : List Response) (step : ℕ) (n q : ℤ) (r : ℕ) → r < length rows → n ≡ q *ℤ pos (length rows) +ℤ pos r
     → told rows step n ≡ later (q *ℤ pos step) (get_or rows r silent)
 told_at rows step n q r below is = let parts = floor_unique n q (length rows) r below is in rw (parts.0, parts.1) refl
 

@@ -173,8 +173,8 @@ fn ones(alloc: Global, count: u64) -> Result<Vec<i64>, Memory>
     Ok(taps)
 }
 
-// The greatest common divisor, by Euclid.
-fn common(a: u64, b: u64) -> u64
+/// The greatest common divisor, by Euclid.
+pub fn common(a: u64, b: u64) -> u64
     requires { 0 < a }
     ensures value { result ≡ common a b }
     ensures some { 0 < result }

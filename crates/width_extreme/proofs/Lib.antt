@@ -1,4 +1,9 @@
+pub mod Bounds
 pub mod Extremes
+pub mod Finer
+pub mod Lawful
 pub mod Ranges
 pub mod Rows
 pub mod Streams
+pub mod Walk
+pub mod Walked

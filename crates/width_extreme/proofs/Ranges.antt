@@ -88,10 +88,10 @@ later-at transform f classes step h whole turns k j e =
 pub zero-fits : (w : ℕ) → FitsWidth w (pos 0)
 zero-fits w = record { low = omega (arith, ints, pow_pos (w - 1)); high = omega (arith, ints, pow_pos (w - 1)) }
 
-least-fits : (w : ℕ) → FitsWidth w (least_sample w)
+pub least-fits : (w : ℕ) → FitsWidth w (least_sample w)
 least-fits w = record { low = omega (arith, ints, pow_pos (w - 1)); high = omega (arith, ints, pow_pos (w - 1)) }
 
-greatest-fits : (w : ℕ) → FitsWidth w (greatest_sample w)
+pub greatest-fits : (w : ℕ) → FitsWidth w (greatest_sample w)
 greatest-fits w = record { low = omega (arith, ints, pow_pos (w - 1)); high = omega (arith, ints, pow_pos (w - 1)) }
 
 fits-low : (w : ℕ) (z : ℤ) → FitsWidth w z → least_sample w ≤ℤ z
@@ -119,11 +119,11 @@ abbrev pub shortfall : ℤ → ℕ
 shortfall (pos n) = 0
 shortfall (negsuc n) = suc n
 
-shortfall-enough : (z : ℤ) → pos 0 ≤ℤ (z +ℤ pos (shortfall z))
+pub shortfall-enough : (z : ℤ) → pos 0 ≤ℤ (z +ℤ pos (shortfall z))
 shortfall-enough (pos n) = omega (arith, ints)
 shortfall-enough (negsuc n) = omega (arith, ints)
 
-product-at_least : (j t s : ℕ) → 0 < t → 0 < s → j ≤ j * t * s
+pub product-at_least : (j t s : ℕ) → 0 < t → 0 < s → j ≤ j * t * s
 product-at_least j t s ht hs = le_trans (le-mul j t ht) (le-mul (j * t) s hs)
   where
     le-mul : (a b : ℕ) → 0 < b → a ≤ a * b
