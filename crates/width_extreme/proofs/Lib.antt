@@ -2,6 +2,7 @@ pub mod Bounds
 pub mod Extremes
 pub mod Finer
 pub mod Lawful
+pub mod Modest
 pub mod Ranges
 pub mod Rows
 pub mod Streams
