@@ -1,6 +1,8 @@
 pub mod Bounds
 pub mod Extremes
 pub mod Finer
+pub mod FirstGroups
+pub mod Held
 pub mod Lawful
 pub mod Modest
 pub mod Ranges

@@ -1,6 +1,8 @@
 //! The exact ranges of forms over the streams of a chain's prefix.
 #![tactic(auto)]
 
+mod chain;
+mod first;
 mod prefix;
 
 ghost use Rattle.std.specs.Prelude.{ℕ, ◌<◌, List, ℤ};
@@ -11,6 +13,7 @@ ghost use Rattle.stage_law.specs.declared.ranges.Class.{Class};
 ghost use Rattle.impulse_phase.specs.Response.{AreLinear, responses, full_cycle};
 ghost use Rattle.width_extreme.specs.Prefix.{IsStream, range_of, finer_classes};
 
+pub use chain::ChainRanges;
 pub use prefix::PrefixRanges;
 
 /// The range of a form over the streams that a prefix without roundings makes of samples of a width: both ends are reached.
