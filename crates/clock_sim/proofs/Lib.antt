@@ -7,3 +7,6 @@ pub mod Simulated
 pub mod Staged
 pub mod Start
 pub mod Tables
+pub mod StepLaws
+pub mod StepKinds
+pub mod Evaluated

@@ -5,7 +5,6 @@ use Rattle.std.proofs.Math.Path.{fun_ext}
 use Rattle.std.proofs.lemmas.Bool.{eqb-true, eqb-false, eq-eqb, ne_eqb}
 use Rattle.std.proofs.lemmas.List.{get_or-set_same, get_or-set_other, length-map}
 use Rattle.std.proofs.lemmas.Option.{slice_get-get_or, slice_get_within}
-use Rattle.verilog_tree.specs.declared.tree.Assign.{Assign}
 use Rattle.verilog_tree.specs.Tree.{Assignment, Design}
 use Rattle.verilog_tree.specs.Meaning.{Shapes, Values, FitNames, assigned}
 use Rattle.verilog_tree.specs.Names.{shapes_of}
@@ -15,7 +14,7 @@ use Rattle.verilog_tree.specs.declared.tree.Module.{Module}
 use Rattle.verilog_tree.specs.View.{assignment_view, design_view}
 use Rattle.settle_order.specs.Placing.{IsEvaluationOrder}
 use Rattle.settle_order.proofs.Opened.{same_some}
-use Rattle.settle_order.proofs.Turns.{driver_at, viewed_at}
+use Rattle.settle_order.proofs.Turns.{driver_at}
 use Rattle.clock_sim.specs.Simulated.{values_of, IsSettledTo}
 
 put_here : (v : Values) (n x : ℕ) → put v n x n ≡ x

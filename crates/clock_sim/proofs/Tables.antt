@@ -64,7 +64,7 @@ drop_one [] k x lt is = absurd (omega (arith, lt))
 drop_one (y ∷ xs) zero x lt is = ap (λ z. z ∷ xs) (sym is)
 drop_one (y ∷ xs) (suc k) x lt is = drop_one xs k x (omega (arith, lt)) is
 
-get_or-any : {A : Type 0} (xs : List A) (k : ℕ) (x y : A) → k < length xs → get_or xs k x ≡ get_or xs k y
+pub get_or-any : {A : Type 0} (xs : List A) (k : ℕ) (x y : A) → k < length xs → get_or xs k x ≡ get_or xs k y
 get_or-any [] k x y lt = absurd (omega (arith, lt))
 get_or-any (z ∷ xs) zero x y lt = refl
 get_or-any (z ∷ xs) (suc k) x y lt = get_or-any xs k x y (omega (arith, lt))

@@ -1,3 +1,4 @@
 pub mod Simulated
 pub mod Sim
 pub mod Tables
+pub mod Steps

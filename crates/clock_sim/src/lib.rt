@@ -1,8 +1,10 @@
 //! A simulator of modules, clock by clock.
 #![tactic(auto)]
 
+mod operand;
 mod shape_table;
 mod sim;
+mod step;
 mod steps;
 
 pub use sim::{PortShape, Sim};

@@ -13,7 +13,9 @@ ghost use Rattle.clock_sim.specs.Simulated.{table_shapes, values_of, Marked};
 ghost use Rattle.clock_sim.specs.Tables.{TellsShapes};
 ghost use Rattle.clock_sim.specs.Sim.{Simulation, IsSound, ArePorts, is_register, AreInitial, HoldInitial, IsDataWidth, cycle_of};
 
+use crate::operand::value_at;
 use crate::shape_table::{ShapeTable, table_of};
+use crate::step::{Compiled, steps_of};
 use crate::steps::{edge, evaluate, mark_blocks, settle, write};
 use mr_values::Memory;
 use settle_order::evaluation_order;
@@ -86,13 +88,6 @@ fn flag(is_so: bool) -> u128
     if is_so { 1 } else { 0 }
 }
 
-// The value of a name, and 0 past the last.
-fn value_at(values: &[u128], name: usize) -> u128
-    ensures { result ≡ values_of values.now name }
-{
-    if name < values.len() { values[name] } else { 0 }
-}
-
 // Writes the inputs to the values of their names.
 fn set_inputs(
     design: &Module,
@@ -121,6 +116,7 @@ pub struct Sim<'a> {
     ports: PortNames,
     table: ShapeTable,
     order: Vec<usize>,
+    steps: Vec<Compiled>,
     values: Vec<u128>,
     staged: Vec<u128>,
 }
@@ -136,7 +132,7 @@ impl<'a> Model for Sim<'a> {
 
     ghost view = { λ s. record { design = s.design.now; values = s.values.items } };
 
-    ghost invariant = { λ s. IsSimulation s.design.now s.ports s.table s.order.items s.values.items s.staged.items };
+    ghost invariant = { λ s. IsSimulation s.design.now s.ports s.table s.order.items s.steps.items s.values.items s.staged.items };
 }
 
 fn is_register(kind: Kind) -> bool
@@ -182,12 +178,14 @@ impl<'a> Sim<'a> {
         let table = table_of(alloc, design, count)?;
         let order = evaluation_order(alloc, design, count)?;
         let values = initial_values(alloc, design, initial)?;
+        let steps = steps_of(alloc, &table, design, values.as_slice())?;
         let staged = Vec::from_elem(alloc, 0, count)?;
         Ok(Sim {
             design,
             ports,
             table,
             order,
+            steps,
             values,
             staged,
         })
@@ -202,7 +200,13 @@ impl<'a> Sim<'a> {
     {
         let values = self.values.as_mut_slice();
         set_inputs(self.design, self.ports, rst, ce, in_data, values);
-        settle(&self.table, self.design, self.order.as_slice(), values);
+        settle(
+            &self.table,
+            self.design,
+            self.steps.as_slice(),
+            self.order.as_slice(),
+            values,
+        );
     }
 
     /// Sets the inputs, of which `in_data` fits its port. It takes no memory.
@@ -224,7 +228,13 @@ impl<'a> Sim<'a> {
         ensures value { (d : Driver) → slice_get (circuit_of (design_view self.old.design)).drivers place ≡ Some d → values_of self.new.values ≡ put (values_of self.old.values) d.target (d.value (values_of self.old.values)) }
     {
         let values = self.values.as_mut_slice();
-        evaluate(&self.table, self.design, place, values);
+        evaluate(
+            &self.table,
+            self.design,
+            self.steps.as_slice(),
+            place,
+            values,
+        );
     }
 
     /// Sets the flags of the registers to which the blocks give a value, of as many flags as there are names. It takes no memory.

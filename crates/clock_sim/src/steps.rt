@@ -8,9 +8,11 @@ ghost use Rattle.verilog_tree.specs.Cycle.{circuit_of, IsDrivenOnce, given, cond
 ghost use Rattle.verilog_tree.specs.View.{tree_view, action_view, actions_view, design_view};
 ghost use Rattle.settle_order.specs.Placing.{IsEvaluationOrder, opened_of};
 ghost use Rattle.clock_sim.specs.Simulated.{table_shapes, values_of, AssignsFit, action_fits, actions_fit, all_given, blocks_fit, Given, Marked};
+ghost use Rattle.clock_sim.specs.Steps.{Compiles};
 ghost use Rattle.clock_sim.specs.Tables.{TellsShapes};
 
 use crate::shape_table::ShapeTable;
+use crate::step::{Compiled, value_by};
 use verilog_tree::{Expr, Module, Stmt, alone, assigned};
 
 /// Gives a name a value.
@@ -21,8 +23,8 @@ pub(crate) fn write(values: &mut [u128], name: usize, bits: u128)
     values[name] = bits;
 }
 
-// A right side, cut to its target's length.
-fn value_for(
+/// A right side, cut to its target's length.
+pub(crate) fn value_for(
     table: &ShapeTable,
     design: &Module,
     target: usize,
@@ -52,8 +54,15 @@ fn holds(table: &ShapeTable, design: &Module, condition: &Expr, values: &[u128])
 }
 
 /// Gives the wire of the assignment at a place the value of its expression.
-pub(crate) fn evaluate(table: &ShapeTable, design: &Module, place: usize, values: &mut [u128])
+pub(crate) fn evaluate(
+    table: &ShapeTable,
+    design: &Module,
+    steps: &[Compiled],
+    place: usize,
+    values: &mut [u128],
+)
     requires table { TellsShapes (table_shapes table.now.widths.items table.now.signs.items) (shapes_of (design_view design.now)) }
+    requires compiled { Compiles (shapes_of (design_view design.now)) design.now.assigns.items steps.now }
     requires fits { AssignsFit (design_view design.now) (length values.old) }
     requires names { FitNames (shapes_of (design_view design.now)) (values_of values.old) }
     requires place { place < length design.now.assigns.items }
@@ -61,14 +70,22 @@ pub(crate) fn evaluate(table: &ShapeTable, design: &Module, place: usize, values
     ensures names { FitNames (shapes_of (design_view design.now)) (values_of values.new) }
 {
     let assign = &design.assigns.as_slice()[place];
-    let bits = value_for(table, design, assign.target, &assign.value, values);
-    write(values, assign.target, bits);
+    let compiled = &steps[place];
+    let bits = value_by(table, design, compiled, &assign.value, values);
+    write(values, compiled.target, bits);
 }
 
 /// Evaluates each assignment once, in this order.
-pub(crate) fn settle(table: &ShapeTable, design: &Module, order: &[usize], values: &mut [u128])
+pub(crate) fn settle(
+    table: &ShapeTable,
+    design: &Module,
+    steps: &[Compiled],
+    order: &[usize],
+    values: &mut [u128],
+)
     requires driven { IsDrivenOnce (design_view design.now) }
     requires table { TellsShapes (table_shapes table.now.widths.items table.now.signs.items) (shapes_of (design_view design.now)) }
+    requires compiled { Compiles (shapes_of (design_view design.now)) design.now.assigns.items steps.now }
     requires fits { AssignsFit (design_view design.now) (length values.old) }
     requires order { IsEvaluationOrder (circuit_of (design_view design.now)) order.now }
     requires names { FitNames (shapes_of (design_view design.now)) (values_of values.old) }
@@ -76,7 +93,7 @@ pub(crate) fn settle(table: &ShapeTable, design: &Module, order: &[usize], value
     ensures names { FitNames (shapes_of (design_view design.now)) (values_of values.new) }
 {
     for place in order {
-        evaluate(table, design, *place, values);
+        evaluate(table, design, steps, *place, values);
     }
 }
 

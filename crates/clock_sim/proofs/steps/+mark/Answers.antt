@@ -1,18 +1,17 @@
-use Rattle.std.proofs.Common.{◌∙◌, ◌+◌, ℕ, List, Bool, length, drop, set, true, rules, arith, sym, ap, subst}
-use Rattle.std.specs.Prelude.{IsTrue, nat_lt, ◌&&◌}
+use Rattle.std.proofs.Common.{◌∙◌, ◌+◌, ℕ, List, length, drop, rules, arith, sym, ap, subst}
+use Rattle.std.specs.Prelude.{IsTrue}
 use Rattle.verilog_tree.specs.declared.tree.Stmt.{Stmt, the_lemmas}
 use Rattle.verilog_tree.specs.Tree as tree
 use Rattle.verilog_tree.specs.Tree.{Action, Actions}
-use Rattle.verilog_tree.specs.Meaning.{is_width, fits as tree_fits}
 use Rattle.verilog_tree.specs.Names.{shapes_of}
 use Rattle.verilog_tree.specs.Cycle.{given}
-use Rattle.verilog_tree.specs.View.{tree_view, action_view, actions_view, design_view}
+use Rattle.verilog_tree.specs.View.{action_view, actions_view, design_view}
 use Rattle.verilog_tree.proofs.Views.{view-Block}
 use Rattle.verilog_tree.proofs.Parts.{and_parts}
 use Rattle.settle_order.specs.Placing.{opened_of}
 use Rattle.clock_sim.specs.Simulated.{values_of, all_given, action_fits, actions_fit, Marked}
-use Rattle.clock_sim.proofs.Staged.{below_of, statements_left}
-use Rattle.clock_sim.proofs.Marks.{IsMarkedTo, mark_turn, mark_done, mark_set}
+use Rattle.clock_sim.proofs.Staged.{statements_left}
+use Rattle.clock_sim.proofs.Marks.{IsMarkedTo, mark_turn, mark_done}
 use Rattle.clock_sim.proofs.Tables.{drop_all}
 use Rattle.clock_sim.proofs.steps.+mark.Goals as goal
 

@@ -1,5 +1,4 @@
-use Rattle.std.proofs.Common.{ℕ, ◌+◌, ◌∙◌, sym, length, subst}
-use Rattle.verilog_tree.specs.Names.{shapes_of}
+use Rattle.std.proofs.Common.{◌∙◌, sym, subst}
 use Rattle.verilog_tree.specs.Cycle.{circuit_of}
 use Rattle.verilog_tree.specs.View.{design_view}
 use Rattle.verilog_tree.proofs.OneSettling.{circuit_sound}

@@ -1,4 +1,4 @@
-use Rattle.std.proofs.Common.{ℕ, sym, subst, arith}
+use Rattle.std.proofs.Common.{ℕ, List, length, sym, subst, arith}
 use Rattle.std.specs.Prelude.{IsTrue}
 use Rattle.verilog_tree.specs.Names.{shapes_of}
 use Rattle.verilog_tree.specs.View.{design_view}
@@ -6,7 +6,7 @@ use Rattle.module_laws.proofs.Levels.{loop_free}
 use Rattle.module_laws.proofs.Passing.{passing_driven}
 use Rattle.clock_sim.specs.Simulated.{AssignsFit, blocks_fit}
 use Rattle.clock_sim.specs.Sim.{ArePorts}
-use Rattle.clock_sim.proofs.Formed.{assigns_fit, blocks_all_fit}
+use Rattle.clock_sim.proofs.Formed.{assigns_fit, blocks_all_fit, widths_fit}
 use Rattle.clock_sim.proofs.sim.Sim.start.Goals as goal
 
 pub evaluation_order-requires-clause-driven : goal.evaluation_order-requires-clause-driven
@@ -15,6 +15,15 @@ evaluation_order-requires-clause-driven c = passing_driven (design_view c.args.d
 pub evaluation_order-requires-clause-free : goal.evaluation_order-requires-clause-free
 evaluation_order-requires-clause-free c = loop_free (design_view c.args.design.now) c.requires.sound.passes.free
 
+pub steps_of-requires-clause-fitting : goal.steps_of-requires-clause-fitting
+steps_of-requires-clause-fitting c = record { each = widths_fit (design_view c.args.design.now) c.requires.sound.formed c.requires.sound.passes }
+
+pub steps_of-requires-clause-fits : goal.steps_of-requires-clause-fits
+steps_of-requires-clause-fits c =
+    let d = design_view c.args.design.now in
+    subst (λ (xs : List ℕ). AssignsFit d (length xs)) (sym c.as_slice.ensures.value)
+    (subst (AssignsFit d) (sym c.in_ok-values.ensures.many) (assigns_fit d c.requires.sound.formed c.requires.sound.passes))
+
 pub invariant_of-result : goal.invariant_of-result
 invariant_of-result c =
     let d = design_view c.args.design.now in
@@ -22,6 +31,7 @@ invariant_of-result c =
     record {
       driven = passing_driven d c.requires.sound.passes;
       tells = c.in_ok-table.ensures;
+      compiled = c.in_ok-steps.ensures;
       assigns = subst (AssignsFit d) (sym many) (assigns_fit d c.requires.sound.formed c.requires.sound.passes);
       blocks = subst (λ (n : ℕ). IsTrue (blocks_fit (shapes_of d) n d.blocks)) (sym many) (blocks_all_fit d c.requires.sound.formed c.requires.sound.passes);
       inputs = subst (λ (n : ℕ). ArePorts d n c.port_names-ports.result) (sym many) c.port_names-ports.ensures;
