@@ -10,3 +10,5 @@ pub mod Tables
 pub mod StepLaws
 pub mod StepKinds
 pub mod Evaluated
+pub mod FlatBlocks
+pub mod BlockKinds

@@ -23,7 +23,7 @@ statements_left_suc (x ∷ ss) (suc k) s lt is = statements_left_suc ss k s (ome
 pub statements_left : (ss : List Stmt) (k : ℕ) (s : Stmt) → k < length ss → s ≡ get_or ss k s → actions_view (drop k ss) ≡ action (action_view s) (actions_view (drop (k + 1) ss))
 statements_left ss k s lt is = rw add-one (statements_left_suc ss k s lt is)
 
-unwrap_later : (a o : Option ℕ) (x : ℕ) → unwrap_or (later a o) x ≡ unwrap_or o (unwrap_or a x)
+pub unwrap_later : (a o : Option ℕ) (x : ℕ) → unwrap_or (later a o) x ≡ unwrap_or o (unwrap_or a x)
 unwrap_later a None x = refl
 unwrap_later a (Some y) x = refl
 

@@ -41,7 +41,7 @@ extension_small w l s x le lt = by (s && top_bit w x)
     by true = omega (arith, powers, lt)
     by false = omega (arith, powers, lt)
 
-extension_same : (w : ℕ) (s : Bool) (x : ℕ) → extension w w s x ≡ x
+pub extension_same : (w : ℕ) (s : Bool) (x : ℕ) → extension w w s x ≡ x
 extension_same w s x = by (s && top_bit w x)
   where
     by : (t : Bool) → (if t then x + (2 ^ w - 2 ^ w) else x) ≡ x

@@ -17,7 +17,9 @@ use Rattle.verilog_text.specs.Shortest.{IsWritable}
 use Rattle.settle_order.specs.Placing.{IsEvaluationOrder}
 use Rattle.clock_sim.specs.declared.sim.PortNames.{PortNames}
 use Rattle.clock_sim.specs.declared.shape_table.ShapeTable.{ShapeTable}
+use Rattle.clock_sim.specs.declared.registers.Blocks.{Blocks}
 use Rattle.clock_sim.specs.declared.step.Compiled.{Compiled}
+use Rattle.clock_sim.specs.Blocks.{AreBlocks}
 use Rattle.clock_sim.specs.Steps.{Compiles}
 use Rattle.clock_sim.specs.Simulated.{table_shapes, values_of, AssignsFit, blocks_fit}
 use Rattle.clock_sim.specs.Tables.{TellsShapes}
@@ -86,12 +88,13 @@ pub record ArePorts (d : Design) (count : ℕ) (ports : PortNames) : Type 0 wher
   pub in_data_width : IsDataWidth ((shapes_of d).width ports.in_data)
   pub out_data_width : IsDataWidth ((shapes_of d).width ports.out_data)
 
-pub record IsSimulation (m : Module) (ports : PortNames) (table : ShapeTable) (order : List ℕ) (steps : List Compiled) (values staged : List ℕ) : Type 0 where
+pub record IsSimulation (m : Module) (ports : PortNames) (table : ShapeTable) (order : List ℕ) (steps : List Compiled) (flat : Blocks) (values staged : List ℕ) : Type 0 where
   pub driven : IsDrivenOnce (design_view m)
   pub tells : TellsShapes (table_shapes table.widths.items table.signs.items) (shapes_of (design_view m))
   pub compiled : Compiles (shapes_of (design_view m)) m.assigns.items steps
   pub assigns : AssignsFit (design_view m) (length values)
   pub blocks : IsTrue (blocks_fit (shapes_of (design_view m)) (length values) (design_view m).blocks)
+  pub registers : AreBlocks (shapes_of (design_view m)) (length values) m.blocks.items flat
   pub inputs : ArePorts (design_view m) (length values) ports
   pub evaluation : IsEvaluationOrder (circuit_of (design_view m)) order
   pub names : FitNames (shapes_of (design_view m)) (values_of values)

@@ -2,6 +2,7 @@
 #![tactic(auto)]
 
 mod operand;
+mod registers;
 mod shape_table;
 mod sim;
 mod step;

@@ -14,6 +14,7 @@ ghost use Rattle.clock_sim.specs.Tables.{TellsShapes};
 ghost use Rattle.clock_sim.specs.Sim.{Simulation, IsSound, ArePorts, is_register, AreInitial, HoldInitial, IsDataWidth, cycle_of};
 
 use crate::operand::value_at;
+use crate::registers::{Blocks, blocks_of};
 use crate::shape_table::{ShapeTable, table_of};
 use crate::step::{Compiled, steps_of};
 use crate::steps::{edge, evaluate, mark_blocks, settle, write};
@@ -117,6 +118,7 @@ pub struct Sim<'a> {
     table: ShapeTable,
     order: Vec<usize>,
     steps: Vec<Compiled>,
+    blocks: Blocks,
     values: Vec<u128>,
     staged: Vec<u128>,
 }
@@ -132,7 +134,7 @@ impl<'a> Model for Sim<'a> {
 
     ghost view = { λ s. record { design = s.design.now; values = s.values.items } };
 
-    ghost invariant = { λ s. IsSimulation s.design.now s.ports s.table s.order.items s.steps.items s.values.items s.staged.items };
+    ghost invariant = { λ s. IsSimulation s.design.now s.ports s.table s.order.items s.steps.items s.blocks s.values.items s.staged.items };
 }
 
 fn is_register(kind: Kind) -> bool
@@ -179,6 +181,7 @@ impl<'a> Sim<'a> {
         let order = evaluation_order(alloc, design, count)?;
         let values = initial_values(alloc, design, initial)?;
         let steps = steps_of(alloc, &table, design, values.as_slice())?;
+        let blocks = blocks_of(alloc, &table, design, ports, values.as_slice())?;
         let staged = Vec::from_elem(alloc, 0, count)?;
         Ok(Sim {
             design,
@@ -186,6 +189,7 @@ impl<'a> Sim<'a> {
             table,
             order,
             steps,
+            blocks,
             values,
             staged,
         })
@@ -254,6 +258,7 @@ impl<'a> Sim<'a> {
         edge(
             &self.table,
             self.design,
+            &self.blocks,
             self.values.as_mut_slice(),
             self.staged.as_mut_slice(),
         );

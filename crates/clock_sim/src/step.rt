@@ -95,8 +95,8 @@ pub(crate) fn value_by(
     }
 }
 
-// The name that an expression is.
-fn name_in(expr: &Expr) -> Option<usize>
+/// The name that an expression is.
+pub(crate) fn name_in(expr: &Expr) -> Option<usize>
     ensures { (n : ℕ) → result ≡ Some n → tree_view expr.now ≡ tree.Name n }
 {
     if let Expr::Name(name) = expr {
@@ -106,8 +106,14 @@ fn name_in(expr: &Expr) -> Option<usize>
     }
 }
 
-// What is handed down to two names, where the length is not less than one that is given.
-fn handed(table: &ShapeTable, design: &Module, first: usize, second: usize, least: u32) -> Handed
+/// What is handed down to two names, where the length is not less than one that is given.
+pub(crate) fn handed(
+    table: &ShapeTable,
+    design: &Module,
+    first: usize,
+    second: usize,
+    least: u32,
+) -> Handed
     requires table { TellsShapes (table_shapes table.now.widths.items table.now.signs.items) (shapes_of (design_view design.now)) }
     requires fitting { AllFitting (shapes_of (design_view design.now)) }
     requires limit { least ≤ 128 }

@@ -8,9 +8,11 @@ ghost use Rattle.verilog_tree.specs.Cycle.{circuit_of, IsDrivenOnce, given, cond
 ghost use Rattle.verilog_tree.specs.View.{tree_view, action_view, actions_view, design_view};
 ghost use Rattle.settle_order.specs.Placing.{IsEvaluationOrder, opened_of};
 ghost use Rattle.clock_sim.specs.Simulated.{table_shapes, values_of, AssignsFit, action_fits, actions_fit, all_given, blocks_fit, Given, Marked};
+ghost use Rattle.clock_sim.specs.Blocks.{AreBlocks};
 ghost use Rattle.clock_sim.specs.Steps.{Compiles};
 ghost use Rattle.clock_sim.specs.Tables.{TellsShapes};
 
+use crate::registers::{Blocks, advance};
 use crate::shape_table::ShapeTable;
 use crate::step::{Compiled, value_by};
 use verilog_tree::{Expr, Module, Stmt, alone, assigned};
@@ -194,8 +196,8 @@ fn run_all(
     }
 }
 
-/// All registers change together, to what the blocks give them.
-pub(crate) fn edge(table: &ShapeTable, design: &Module, values: &mut [u128], staged: &mut [u128])
+// All registers change together, to what the trees of the blocks give them.
+fn edge_by_trees(table: &ShapeTable, design: &Module, values: &mut [u128], staged: &mut [u128])
     requires table { TellsShapes (table_shapes table.now.widths.items table.now.signs.items) (shapes_of (design_view design.now)) }
     requires sizes { length staged.old ≡ length values.old }
     requires fits { IsTrue (blocks_fit (shapes_of (design_view design.now)) (length values.old) (design_view design.now).blocks) }
@@ -206,4 +208,26 @@ pub(crate) fn edge(table: &ShapeTable, design: &Module, values: &mut [u128], sta
     staged.copy_from_slice(values);
     run_all(table, design, &design.blocks, values, staged);
     values.copy_from_slice(staged);
+}
+
+/// All registers change together, to what the blocks give them.
+pub(crate) fn edge(
+    table: &ShapeTable,
+    design: &Module,
+    blocks: &Blocks,
+    values: &mut [u128],
+    staged: &mut [u128],
+)
+    requires table { TellsShapes (table_shapes table.now.widths.items table.now.signs.items) (shapes_of (design_view design.now)) }
+    requires blocks { AreBlocks (shapes_of (design_view design.now)) (length values.old) design.now.blocks.items blocks.now }
+    requires sizes { length staged.old ≡ length values.old }
+    requires fits { IsTrue (blocks_fit (shapes_of (design_view design.now)) (length values.old) (design_view design.now).blocks) }
+    requires names { FitNames (shapes_of (design_view design.now)) (values_of values.old) }
+    ensures next { (register : ℕ) → values_of values.new register ≡ next (circuit_of (design_view design.now)) (values_of values.old) register }
+    ensures names { FitNames (shapes_of (design_view design.now)) (values_of values.new) }
+{
+    match blocks {
+        Blocks::Flat(registers) => advance(registers, values, staged),
+        Blocks::Trees => edge_by_trees(table, design, values, staged),
+    }
 }
