@@ -1,3 +1,12 @@
+pub mod DecimatorLemmas
+pub mod InterpolatorLemmas
+pub mod PhaseLemmas
+pub mod PieceLemmas
+pub mod RealisesLemmas
+pub mod RowLemmas
+pub mod SampleLemmas
+pub mod StepLemmas
+pub mod UpLemmas
+pub mod WeightLemmas
 pub mod WholeLemmas
 pub mod WrapLemmas
-pub mod UpLemmas

@@ -79,7 +79,7 @@ module _ (factor : ℕ) (positive : 1 ≤ factor) where
   up-combs zero delay x = refl
   up-combs (suc k) delay x = up-comb delay (plain_combs k delay x) ∙ ap (plain_comb (factor * delay)) (up-combs k delay x)
 
-  up-causal : (x : Sequence) → IsCausal x → IsCausal (up factor x)
+  pub up-causal : (x : Sequence) → IsCausal x → IsCausal (up factor x)
   up-causal x c n = each (nat_eq (floor_remainder (negsuc n) factor) 0) (x (floor_quotient (negsuc n) factor)) (c _)
     where
       each : (b : Bool) (z : ℤ) → z ≡ pos 0 → cond b z (pos 0) ≡ pos 0

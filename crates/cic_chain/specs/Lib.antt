@@ -1,1 +1,5 @@
 pub mod Cascade
+pub mod Facts
+pub mod Phases
+pub mod Pieces
+pub mod Weights

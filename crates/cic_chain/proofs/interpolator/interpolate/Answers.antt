@@ -1,0 +1,20 @@
+use Rattle.net_graph.proofs.NetLemmas.{Extends-trans}
+use Rattle.cic_chain.proofs.InterpolatorLemmas.{AddsInterpolator-all, fast_period}
+use Rattle.cic_chain.proofs.interpolator.interpolate.Goals as goal
+
+pub returns-clause-ok : goal.returns-clause-ok
+returns-clause-ok c =
+    AddsInterpolator-all c.args.from c.args.width c.args.factor c.args.stages c.args.delay c.requires.positive c.requires.wide.0 c.requires.factor_low c.requires.some
+    (fast_period c.in_ok-fast.ensures.ok c.in_ok-slow.ensures.ok c.requires.positive) c.in_ok-slow.ensures.ok c.in_ok-fast.ensures.ok c.in_ok-node.ensures.ok
+
+pub returns-clause-extends : goal.returns-clause-extends
+returns-clause-extends c = (returns-clause-ok c).piece.grows.extends
+
+pub returns-clause-group : goal.returns-clause-group
+returns-clause-group c = (returns-clause-ok c).piece.grows.group
+
+pub returns-in_err-fast-clause-extends : goal.returns-in_err-fast-clause-extends
+returns-in_err-fast-clause-extends c = Extends-trans _ _ _ c.in_ok-slow.ensures.extends c.in_err-fast.ensures.extends
+
+pub returns-in_err-node-clause-extends : goal.returns-in_err-node-clause-extends
+returns-in_err-node-clause-extends c = Extends-trans _ _ _ c.in_ok-slow.ensures.extends (Extends-trans _ _ _ c.in_ok-fast.ensures.extends c.in_err-node.ensures.extends)

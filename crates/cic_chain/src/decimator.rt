@@ -1,0 +1,46 @@
+// Integrators, every so many values, and combs.
+
+ghost use Rattle.std.specs.Prelude.{◌≡◌, ◌<◌, ◌≤◌, ◌^◌, length, IfOk};
+ghost use Rattle.net_graph.specs.Grow.{Extends};
+ghost use Rattle.net_graph.specs.WellFormed.{IsWidth};
+ghost use Rattle.cic_chain.specs.Pieces.{AddsDecimator};
+
+use crate::cascades::{combs, integrators};
+use mr_values::Memory;
+use net_graph::{Net, Stream};
+use std::alloc::Global;
+
+/// So many integrators at the stream's ticks, every `factor`-th of the last one's values, and as many combs of these, all registers of one
+/// width. After want of memory there may be more nodes.
+pub(crate) fn decimate(
+    alloc: Global,
+    net: &mut Net,
+    from: Stream,
+    factor: u32,
+    stages: usize,
+    delay: usize,
+    width: u8,
+) -> Result<Stream, Memory>
+    requires within { from.node.place < length net.old.cells }
+    requires data_group { 1 ≤ net.old.group }
+    requires positive { 1 ≤ from.period }
+    requires short { from.period < 2 ^ 31 }
+    requires early { from.offset < 2 ^ 31 }
+    requires factor_low { 1 ≤ factor }
+    requires factor_high { factor ≤ 4096 }
+    requires some { 1 ≤ stages }
+    requires few { stages ≤ 8 }
+    requires wide { IsWidth width }
+    ensures ok { IfOk result (AddsDecimator net.old net.new from width factor stages delay) }
+    ensures extends { Extends net.old.cells net.new.cells }
+    ensures group { net.new.group ≡ net.old.group }
+{
+    let last = integrators(alloc, net, from, stages, width)?;
+    let kept = Stream {
+        node: last,
+        period: from.period * u64::from(factor),
+        offset: from.offset + (stages as u64 - 1) * from.period + 1,
+    };
+    let to = combs(alloc, net, kept, stages, delay, width)?;
+    Ok(to)
+}

@@ -1,0 +1,176 @@
+// Cascades as stages of a chain.
+
+ghost use Rattle.std.specs.Prelude.{◌≡◌, ℕ, ◌*◌, ◌<◌, ◌≤◌, ◌^◌, IfOk};
+ghost use Rattle.mr_values.specs.Width.{IsLeastWidth};
+ghost use Rattle.stage_law.specs.Range.{IsRange};
+ghost use Rattle.stage_law.specs.Streams.{HasRoom};
+ghost use Rattle.cic_chain.specs.Facts.{cic_down_facts, cic_up_facts, TakesDown, TakesUp};
+ghost use Rattle.cic_chain.specs.Weights.{moving_sums};
+
+use crate::decimator::decimate;
+use crate::interpolator::interpolate;
+use crate::phases::phase_range;
+use crate::weights::moving_sums;
+use mr_values::{Memory, least_width};
+use net_graph::{Net, Stream};
+use stage_law::{Class, Cost, Emitted, Kind, Range, Ranges, Rates, Stage, WeightedSum};
+use std::alloc::Global;
+
+/// A decimator by `factor` of N integrators and N combs, each comb over D values.
+#[derive(Clone, Copy, Debug, PartialEq, Eq)]
+pub struct CicDown<const N: usize, const D: usize> {
+    factor: u32,
+    ghost factor_low: { 1 ≤ factor },
+    ghost factor_high: { factor ≤ 4096 },
+    ghost some: { 1 ≤ N },
+    ghost few: { N ≤ 8 },
+    ghost late: { 1 ≤ D },
+    ghost close: { D ≤ 2 },
+}
+
+impl<const N: usize, const D: usize> CicDown<N, D> {
+    /// The decimator by this factor.
+    pub fn new(factor: u32) -> Self
+        requires factor_low { 1 ≤ factor }
+        requires factor_high { factor ≤ 4096 }
+        requires some { 1 ≤ N }
+        requires few { N ≤ 8 }
+        requires late { 1 ≤ D }
+        requires close { D ≤ 2 }
+        ensures { result.factor ≡ factor }
+    {
+        CicDown { factor }
+    }
+}
+
+// The least number of bits that holds the range.
+fn width_of(range: Range) -> u8
+    ensures { IsLeastWidth range.lo range.hi result }
+{
+    least_width(range.lo, range.hi)
+}
+
+impl<const N: usize, const D: usize> Stage for CicDown<N, D> {
+    ghost facts = { λ s. cic_down_facts s.factor N D };
+
+    ghost takes = { λ s period. TakesDown period };
+
+    fn kind(&self) -> Kind {
+        Kind::CicDown
+    }
+
+    fn rates(&self) -> Rates {
+        Rates {
+            up: 1,
+            down: self.factor,
+        }
+    }
+
+    fn delay(&self, period: u64) -> u64 {
+        (N as u64 - 1) * period + 1 + N as u64
+    }
+
+    fn cost(&self) -> Cost {
+        Cost {
+            adders: 2 * N as u64,
+            windows: 0,
+            tables: 0,
+        }
+    }
+
+    fn emit<R: Ranges>(
+        &self,
+        alloc: Global,
+        net: &mut Net,
+        from: Stream,
+        ranges: &R,
+    ) -> Result<Emitted, Memory> {
+        let weights = moving_sums(alloc, N, self.factor as usize * D)?;
+        let sum = WeightedSum { behind: 0, weights };
+        let kept = Class {
+            modulus: self.factor,
+            residue: 0,
+        };
+        let range = ranges.range(&sum, kept);
+        let width = width_of(range);
+        let stream = decimate(alloc, net, from, self.factor, N, D, width)?;
+        Ok(Emitted {
+            stream,
+            peaks: Vec::new(alloc),
+        })
+    }
+}
+
+/// An interpolator by `factor` of N combs and N integrators, each comb over D values.
+#[derive(Clone, Copy, Debug, PartialEq, Eq)]
+pub struct CicUp<const N: usize, const D: usize> {
+    factor: u32,
+    ghost factor_low: { 1 ≤ factor },
+    ghost factor_high: { factor ≤ 4096 },
+    ghost some: { 1 ≤ N },
+    ghost few: { N ≤ 8 },
+    ghost late: { 1 ≤ D },
+    ghost close: { D ≤ 2 },
+}
+
+impl<const N: usize, const D: usize> CicUp<N, D> {
+    /// The interpolator by this factor.
+    pub fn new(factor: u32) -> Self
+        requires factor_low { 1 ≤ factor }
+        requires factor_high { factor ≤ 4096 }
+        requires some { 1 ≤ N }
+        requires few { N ≤ 8 }
+        requires late { 1 ≤ D }
+        requires close { D ≤ 2 }
+        ensures { result.factor ≡ factor }
+    {
+        CicUp { factor }
+    }
+}
+
+impl<const N: usize, const D: usize> Stage for CicUp<N, D> {
+    ghost facts = { λ s. cic_up_facts s.factor N D };
+
+    ghost takes = { λ s period. TakesUp s.factor period };
+
+    fn kind(&self) -> Kind {
+        Kind::CicUp
+    }
+
+    fn rates(&self) -> Rates {
+        Rates {
+            up: self.factor,
+            down: 1,
+        }
+    }
+
+    fn delay(&self, period: u64) -> u64 {
+        let fast = period / u64::from(self.factor);
+        N as u64 + (N as u64 - 1) * fast + 1
+    }
+
+    fn cost(&self) -> Cost {
+        Cost {
+            adders: 2 * N as u64,
+            windows: 0,
+            tables: 0,
+        }
+    }
+
+    fn emit<R: Ranges>(
+        &self,
+        alloc: Global,
+        net: &mut Net,
+        from: Stream,
+        ranges: &R,
+    ) -> Result<Emitted, Memory> {
+        let weights = moving_sums(alloc, N, self.factor as usize * D)?;
+        let range = phase_range(alloc, weights.as_slice(), self.factor, ranges)?;
+        let width = width_of(range);
+        let stream = interpolate(alloc, net, from, self.factor, N, D, width)?;
+        Ok(Emitted {
+            stream,
+            peaks: Vec::new(alloc),
+        })
+    }
+}
