@@ -17,7 +17,7 @@ use Rattle.net_graph.proofs.GroupLemmas.{nameless_data}
 use Rattle.net_graph.proofs.NetLemmas.{cell_of_added}
 use Rattle.net_graph.proofs.GrowLemmas.{Grows-refl, Grows-trans, Grows-data}
 use Rattle.pipeline_balance.specs.Gate.{IsWindow}
-use Rattle.pipeline_balance.specs.Numbered.{IsCounted, IsTouched}
+use Rattle.pipeline_balance.specs.Numbered.{IsRegister, IsCounted, IsTouched, name_of}
 use Rattle.pipeline_balance.proofs.NumberedLemmas.{free_adds, LeavesFree-refl, LeavesFree-trans, IsCounted-leaves}
 use Rattle.pipeline_balance.proofs.CostLemmas.{SameAdders-refl, SameAdders-trans, SameAdders-plain, SameNamed-refl, SameNamed-adds}
 use Rattle.pipeline_balance.proofs.ShallowLemmas.{plain_register}
@@ -27,12 +27,11 @@ use Rattle.polyphase_fir.specs.Cutting.{IsNarrowed, AddsWindow}
 use Rattle.polyphase_fir.specs.Held.{IsFormWidth}
 use Rattle.polyphase_fir.proofs.HeldLemmas.{between}
 
-pub IsNarrowed-same : (net : NetView) (node : Node) (width : ℕ) → node.place < length net.cells → 1 ≤ (cell_at net.cells node.place).width → (cell_at net.cells node.place).width ≤ width → IsNarrowed net net node width node
-IsNarrowed-same net node width within some most = record {
+pub IsNarrowed-same : (net : NetView) (node : Node) (width : ℕ) → node.place < length net.cells → (cell_at net.cells node.place).width ≡ width → IsNarrowed net net node width node
+IsNarrowed-same net node width within wide = record {
   grows = Grows-refl net;
   within = within;
-  some = some;
-  most = most;
+  wide = wide;
   keeps = λ cut law x v r t fits. refl;
   adders = SameAdders-refl net.cells;
   named = SameNamed-refl net.cells;
@@ -46,8 +45,7 @@ IsNarrowed-cut {old} {new} {from} {to} {width} wide data_group a =
     record {
       grows = Grows-data data_group a refl;
       within = slice_get_within new.cells to.place _ there;
-      some = omega arith;
-      most = omega arith;
+      wide = own;
       keeps = λ cut law x v r t fits.
           r.each to.place _ there t ∙ ap (λ (c : Bool). cut c width (v t from.place *ℤ pos (2 ^ 0))) (nameless_data old.group true data_group) ∙ ap (cut false width) (times_one (v t from.place)) ∙ law.fitting false width (v t from.place) wide fits;
       adders = SameAdders-plain a refl;
@@ -96,13 +94,20 @@ AddsWindow-cut {old} {mid} {new} {node} {width} {nodes} streams from unused leas
         narrow = λ age found is.
             let register = register_at age found is in
             let own_width : (cell_at new.cells found.place).width ≡ (cell_at mid.cells node.place).width = ap (λ (c : Cell). c.width) (cell_at-is new.cells found.place register.cell register.there) ∙ register.wide in
-            let some = n.some in
-            let most = n.most in
+            let own = n.wide in
+            let some = least.least.positive in
             (slice_get_within new.cells found.place register.cell register.there, omega arith, omega arith);
       };
       plain = record { each = λ age found is. plain_register old.group (register_at age found is) };
       adders = SameAdders-trans n.adders w.adders;
       windows = subst (λ (g : ℕ). windows_in g new.cells ≡ windows_in g mid.cells + length nodes) same w.windows ∙ ap (λ (m : ℕ). m + length nodes) (n.named.windows old.group);
+      registers = λ age found is.
+          let from_none : 0 + age ≡ age = omega arith in
+          let register = subst (λ (n : ℕ). IsRegister new.cells found.place mid.group (name_of mid.group Window n) (cell_at mid.cells node.place).width) from_none (register_at age found is) in
+          subst (λ (g : ℕ). IsRegister new.cells found.place g (name_of g Window age) width) same (subst (λ (w : ℕ). IsRegister new.cells found.place mid.group (name_of mid.group Window age) w) n.wide register);
+      counted =
+          let from_none : 0 + length nodes ≡ length nodes = omega arith in
+          subst (λ (g : ℕ). IsCounted new.cells g Window (length nodes)) same (subst (λ (n : ℕ). IsCounted new.cells mid.group Window n) from_none (w.counted 0 counted));
       tables = subst (λ (g : ℕ). tables_in g new.cells ≡ tables_in g mid.cells) same w.tables ∙ n.named.tables old.group;
       names = LeavesFree-trans old.cells mid.cells new.cells (λ name. ⊥) (IsTouched mid.group Window) (IsTouched old.group Window) (λ name no. absurd no) (λ name h. subst (λ (g : ℕ). IsTouched g Window name) same h) n.names w.names;
     }

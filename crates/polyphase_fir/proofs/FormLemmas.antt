@@ -16,7 +16,7 @@ use Rattle.signed_digit.specs.Terms.{term_sum}
 use Rattle.pipeline_balance.specs.Leaves.{signed_by}
 use Rattle.stage_law.specs.Streams.{magnitudes}
 use Rattle.polyphase_fir.specs.Placed.{powers, all_minus}
-use Rattle.polyphase_fir.specs.Form.{power_of, with_term, with_terms, form_of}
+use Rattle.polyphase_fir.specs.Form.{power_of, with_term, with_terms, reach_of, form_of}
 
 -- ---- sums
 
@@ -122,11 +122,11 @@ read_or [] i x d h e = absurd (omega arith)
 read_or (y ∷ xs) zero x d h e = e
 read_or (y ∷ xs) (suc i) x d h e = read_or xs i x d (omega arith) e
 
-pub form_small : (depth most : ℕ) (terms : List Term) (form : List ℤ) → form ≡ form_of depth terms → most * powers terms ≤ 2 ^ 126 → most * magnitudes form ≤ 2 ^ 126
-form_small depth most terms form e h =
-    let bound = magnitudes-with_terms (all_minus terms) (replicate depth (pos 0)) terms in
-    let none = magnitudes-replicate depth in
-    let same : magnitudes form ≡ magnitudes (form_of depth terms) = ap magnitudes e in
+pub form_small : (most : ℕ) (terms : List Term) (form : List ℤ) → form ≡ form_of terms → most * powers terms ≤ 2 ^ 126 → most * magnitudes form ≤ 2 ^ 126
+form_small most terms form e h =
+    let bound = magnitudes-with_terms (all_minus terms) (replicate (reach_of terms) (pos 0)) terms in
+    let none = magnitudes-replicate (reach_of terms) in
+    let same : magnitudes form ≡ magnitudes (form_of terms) = ap magnitudes e in
     let less : magnitudes form ≤ powers terms = omega arith in
     let more : most * magnitudes form ≤ most * powers terms = mul-le-mul_left most less in
     omega arith

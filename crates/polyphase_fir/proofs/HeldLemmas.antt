@@ -24,9 +24,10 @@ use Rattle.pipeline_balance.specs.Tree.{level_count, count_to, SumsFit}
 use Rattle.pipeline_balance.proofs.TakenLemmas.{taken}
 use Rattle.stage_law.specs.Streams.{Streams, AreCausal}
 use Rattle.polyphase_fir.specs.Placed.{all_minus, leaf_of, term_segment}
-use Rattle.polyphase_fir.specs.Form.{form_of}
+use Rattle.polyphase_fir.specs.Form.{reach_of, form_of}
 use Rattle.polyphase_fir.specs.Held.{IsFormWidth, AreTreeWidths}
 use Rattle.polyphase_fir.proofs.FormLemmas.{weighted_sum-with_terms, weighted_sum-replicate, signed_times}
+use Rattle.polyphase_fir.proofs.PlaceLemmas.{below_reach}
 
 -- ---- leaves are terms
 
@@ -61,12 +62,13 @@ term_sum-same depth (t ∷ ts) f g h e =
     ∙ ap (λ (z : ℤ). with_sign t.negative (2 ^ t.place) *ℤ g t.index +ℤ z) (term_sum-same depth ts f g (All-tail (λ (u : Term). u.index < depth) t ts h) e)
 
 -- the form's sum is that of the terms, or of their negations
-pub weighted_sum-form : (depth : ℕ) (ts : List Term) (f : ℕ → ℤ) → All (λ (t : Term). t.index < depth) ts → weighted_sum (form_of depth ts) f ≡ signed_by (all_minus ts) (term_sum f ts)
-weighted_sum-form depth ts f h =
-    let long : length (replicate depth (pos 0)) ≡ depth = length-replicate depth (pos 0) in
-    let places : All (λ (t : Term). t.index < length (replicate depth (pos 0))) ts = subst (λ (n : ℕ). All (λ (t : Term). t.index < n) ts) (sym long) h in
-    let sum = weighted_sum-with_terms (all_minus ts) (replicate depth (pos 0)) ts f places in
-    let none = weighted_sum-replicate depth f in
+pub weighted_sum-form : (ts : List Term) (f : ℕ → ℤ) → weighted_sum (form_of ts) f ≡ signed_by (all_minus ts) (term_sum f ts)
+weighted_sum-form ts f =
+    let reach = reach_of ts in
+    let long : length (replicate reach (pos 0)) ≡ reach = length-replicate reach (pos 0) in
+    let places : All (λ (t : Term). t.index < length (replicate reach (pos 0))) ts = subst (λ (n : ℕ). All (λ (t : Term). t.index < n) ts) (sym long) (below_reach ts) in
+    let sum = weighted_sum-with_terms (all_minus ts) (replicate reach (pos 0)) ts f places in
+    let none = weighted_sum-replicate reach f in
     sum ∙ ap (λ (z : ℤ). z +ℤ signed_by (all_minus ts) (term_sum f ts)) none ∙ no_less (signed_by (all_minus ts) (term_sum f ts))
   where
     no_less : (z : ℤ) → pos 0 +ℤ z ≡ z
@@ -96,16 +98,16 @@ module _ {cells : List Cell} {from : Stream} (window : List Node) (streams : Str
   sum_is ts h t count taken_is = signed_sum-leaves values t window ts ∙ term_sum-same (length window) ts (at_window values t window) (λ i. v (pos count -ℤ pos 1 -ℤ pos i)) h (window_is t count taken_is)
 
   -- a register's sum is that of its form
-  pub held_is : (ts : List Term) → All (λ (t : Term). t.index < length window) ts → (t count : ℕ) → HasTaken from.period from.offset count t → held_sum values t (map (leaf_of window) ts) ≡ filter (form_of (length window) ts) v (pos count -ℤ pos 1)
+  pub held_is : (ts : List Term) → All (λ (t : Term). t.index < length window) ts → (t count : ℕ) → HasTaken from.period from.offset count t → held_sum values t (map (leaf_of window) ts) ≡ filter (form_of ts) v (pos count -ℤ pos 1)
   held_is ts h t count taken_is =
       ap (λ (b : Bool). signed_by b (signed_sum values t (map (leaf_of window) ts))) (all_negative-leaves window ts) ∙ ap (signed_by (all_minus ts)) (sum_is ts h t count taken_is)
-      ∙ sym (weighted_sum-form (length window) ts (λ i. v (pos count -ℤ pos 1 -ℤ pos i)) h)
+      ∙ sym (weighted_sum-form ts (λ i. v (pos count -ℤ pos 1 -ℤ pos i)))
 
   -- and fits its width
-  held_fits : (ts : List Term) → All (λ (t : Term). t.index < length window) ts → (width : ℕ) → IsFormWidth streams (form_of (length window) ts) width → (t count : ℕ) → HasTaken from.period from.offset count t → FitsWidth width (held_sum values t (map (leaf_of window) ts))
+  held_fits : (ts : List Term) → All (λ (t : Term). t.index < length window) ts → (width : ℕ) → IsFormWidth streams (form_of ts) width → (t count : ℕ) → HasTaken from.period from.offset count t → FitsWidth width (held_sum values t (map (leaf_of window) ts))
   held_fits ts h width w t zero taken_is =
       let at : (i : ℕ) → v (pos 0 -ℤ pos 1 -ℤ pos i) ≡ pos 0 = λ i. let e : pos 0 -ℤ pos 1 -ℤ pos i ≡ negsuc i = omega (arith, ints) in ap v e ∙ causal.each v is_one i in
-      let nothing : held_sum values t (map (leaf_of window) ts) ≡ pos 0 = held_is ts h t 0 taken_is ∙ weighted_sum-same (form_of (length window) ts) (λ i. v (pos 0 -ℤ pos 1 -ℤ pos i)) (λ i. pos 0) at ∙ weighted_sum-nothing (form_of (length window) ts) in
+      let nothing : held_sum values t (map (leaf_of window) ts) ≡ pos 0 = held_is ts h t 0 taken_is ∙ weighted_sum-same (form_of ts) (λ i. v (pos 0 -ℤ pos 1 -ℤ pos i)) (λ i. pos 0) at ∙ weighted_sum-nothing (form_of ts) in
       subst (FitsWidth width) (sym nothing) (FitsWidth-zero width)
     where
       weighted_sum-nothing : (cs : List ℤ) → weighted_sum cs (λ i. pos 0) ≡ pos 0
@@ -113,17 +115,17 @@ module _ {cells : List Cell} {from : Stream} (window : List Node) (streams : Str
       weighted_sum-nothing (c ∷ cs) = omega (arith, ints, weighted_sum-nothing cs)
   held_fits ts h width w t (suc k) taken_is =
       let index : pos (suc k) -ℤ pos 1 ≡ pos k = omega (arith, ints) in
-      let is : held_sum values t (map (leaf_of window) ts) ≡ filter (form_of (length window) ts) v (pos k) = held_is ts h t (suc k) taken_is ∙ ap (filter (form_of (length window) ts) v) index in
-      subst (FitsWidth width) (sym is) (between width w.range.lo (filter (form_of (length window) ts) v (pos k)) w.range.hi w.least.holds_low w.least.holds_high (w.is_range.low v is_one k (omega arith)) (w.is_range.high v is_one k (omega arith)))
+      let is : held_sum values t (map (leaf_of window) ts) ≡ filter (form_of ts) v (pos k) = held_is ts h t (suc k) taken_is ∙ ap (filter (form_of ts) v) index in
+      subst (FitsWidth width) (sym is) (between width w.range.lo (filter (form_of ts) v (pos k)) w.range.hi w.least.holds_low w.least.holds_high (w.is_range.low v is_one k (omega arith)) (w.is_range.high v is_one k (omega arith)))
 
   -- the widths of the tree's registers hold all its sums
-  pub sums_fit : (ts : List Term) (levels : ℕ) (widths : List ℕ) → All (λ (t : Term). t.index < length window) ts → AreTreeWidths streams (length window) ts levels widths → SumsFit cut values (map (leaf_of window) ts) widths levels
+  pub sums_fit : (ts : List Term) (levels : ℕ) (widths : List ℕ) → All (λ (t : Term). t.index < length window) ts → AreTreeWidths streams ts levels widths → SumsFit cut values (map (leaf_of window) ts) widths levels
   sums_fit ts levels widths h w level j low within t =
       let many : length (map (leaf_of window) ts) ≡ length ts = length-map ts (leaf_of window) in
       let part = term_segment (suc level) j ts in
       let inside : All (λ (u : Term). u.index < length window) part = All-take (λ (u : Term). u.index < length window) (2 ^ suc level) (drop (j * 2 ^ suc level) ts) (All-drop (λ (u : Term). u.index < length window) (j * 2 ^ suc level) ts h) in
       let before = taken from.period from.offset t positive in
-      let own : IsFormWidth streams (form_of (length window) part) (get_or widths (count_to (length ts) level + j) 0) = w.each level j low (subst (λ (n : ℕ). j < level_count n (suc level)) many within) in
+      let own : IsFormWidth streams (form_of part) (get_or widths (count_to (length ts) level + j) 0) = w.each level j low (subst (λ (n : ℕ). j < level_count n (suc level)) many within) in
       let fits = held_fits part inside (get_or widths (count_to (length ts) level + j) 0) own t before.0 before.1 in
       let kept : cut false (get_or widths (count_to (length ts) level + j) 0) (held_sum values t (map (leaf_of window) part)) ≡ held_sum values t (map (leaf_of window) part) = law.fitting false (get_or widths (count_to (length ts) level + j) 0) (held_sum values t (map (leaf_of window) part)) own.least.positive fits in
       let same : segment (suc level) j (map (leaf_of window) ts) ≡ map (leaf_of window) part = segment-leaves window (suc level) j ts in

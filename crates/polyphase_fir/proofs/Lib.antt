@@ -6,7 +6,13 @@ pub mod WidthsLemmas
 pub mod BoundLemmas
 pub mod SumLemmas
 pub mod PhaseBounds
+pub mod PlaceLemmas
 pub mod CuttingLemmas
+pub mod UnitLemmas
+pub mod DueLemmas
+pub mod PeakLemmas
+pub mod ListLemmas
+pub mod LeastLemmas
 pub mod RootLemmas
 pub mod ShownLemmas
 pub mod RealisesLemmas

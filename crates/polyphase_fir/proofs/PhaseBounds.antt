@@ -21,7 +21,7 @@ use Rattle.stage_law.specs.Streams.{Streams, HasRoom, magnitudes}
 use Rattle.polyphase_fir.specs.Placed.{at_place, placed_terms, powers, all_minus, leaf_of}
 use Rattle.polyphase_fir.specs.Facts.{levels_of}
 use Rattle.polyphase_fir.specs.Form.{form_of}
-use Rattle.polyphase_fir.specs.Held.{FitWindow, IsFormWidth}
+use Rattle.polyphase_fir.specs.Held.{AreSmall, IsFormWidth}
 use Rattle.polyphase_fir.specs.Sums.{IsReady}
 use Rattle.polyphase_fir.proofs.BoundLemmas.{sum_within, place_below, shift_room, range_within}
 use Rattle.polyphase_fir.proofs.FormLemmas.{abs_signed, abs_with_sign}
@@ -86,12 +86,11 @@ module _ (streams : Streams) (up r : ℕ) (taps : List ℤ) (inside : r < up) (a
       let gain = gain_small taps are_taps in
       All-weaker (λ (t : Term). 2 ^ t.place ≤ 2 * magnitudes taps) (λ (t : Term). t.place ≤ 90) (λ t h. place_below t.place 90 (omega arith)) (placed_terms up r taps) (each_power (placed_terms up r taps) (2 * magnitudes taps) (powers-placed up r taps))
 
-  pub fit_window : FitWindow streams (ceil_div (length taps) up) (placed_terms up r taps)
-  fit_window =
+  pub small_sums : AreSmall streams (placed_terms up r taps)
+  small_sums =
       let gain = gain_small taps are_taps in
       let sum = powers-placed up r taps in
       record {
-        places = placed_below up r taps (omega arith);
         short = short_places;
         small = omega arith;
         few = let many = few_terms up r taps inside in omega arith;
@@ -111,17 +110,16 @@ module _ (streams : Streams) (up r : ℕ) (taps : List ℤ) (inside : r < up) (a
       omega arith
 
   -- the register of all terms has room for a sign
-  pub root_room : (width : ℕ) → IsFormWidth streams (form_of (ceil_div (length taps) up) (placed_terms up r taps)) width → width ≤ 127
+  pub root_room : (width : ℕ) → IsFormWidth streams (form_of (placed_terms up r taps)) width → width ≤ 127
   root_room width w =
-      let depth = ceil_div (length taps) up in
       let ts = placed_terms up r taps in
-      let each : (v : Sequence) → streams v → (k : ℕ) → unsigned_abs (filter (form_of depth ts) v (pos k)) ≤ 2 ^ 125 =
+      let each : (v : Sequence) → streams v → (k : ℕ) → unsigned_abs (filter (form_of ts) v (pos k)) ≤ 2 ^ 125 =
       λ v is k.
       let f : ℕ → ℤ = λ i. v (pos k -ℤ pos i) in
-      let same : unsigned_abs (filter (form_of depth ts) v (pos k)) ≡ unsigned_abs (term_sum f ts) = ap unsigned_abs (weighted_sum-form depth ts f (placed_below up r taps (omega arith))) ∙ abs_signed (all_minus ts) (term_sum f ts) in
+      let same : unsigned_abs (filter (form_of ts) v (pos k)) ≡ unsigned_abs (term_sum f ts) = ap unsigned_abs (weighted_sum-form ts f) ∙ abs_signed (all_minus ts) (term_sum f ts) in
       let bound = phase_within v is f (λ i. room.within.each v is (pos k -ℤ pos i)) in
       omega arith in
-      elim (range_within streams (form_of depth ts) width room.most (2 ^ 125) room.within each w) [
+      elim (range_within streams (form_of ts) width room.most (2 ^ 125) room.within each w) [
         | inl narrow ↦ omega arith
         | inr le ↦ let p = place_below (width - 2) 125 le in omega arith
       ]
@@ -190,11 +188,12 @@ pub IsReady-placed : (streams : Streams) (up r : ℕ) (taps : List ℤ) → r < 
     → (ts : List Term) (levels : ℕ) → ts ≡ placed_terms up r taps → levels ≡ levels_of taps up → IsReady streams cells window ts levels
 IsReady-placed streams up r taps inside are_taps few room cells window width w long wide ts levels e same =
     let ready : IsReady streams cells window (placed_terms up r taps) (levels_of taps up) = record {
+      places = subst (λ (n : ℕ). All (λ (t : Term). t.index < n) (placed_terms up r taps)) long (placed_below up r taps (omega arith));
       leaves = all_leaves streams up r taps inside are_taps few room cells window width w long wide;
       negatable = λ all none. all_negatable streams up r taps inside are_taps few room cells window width w long wide none;
-      fits = subst (λ (n : ℕ). FitWindow streams n (placed_terms up r taps)) long (fit_window streams up r taps inside are_taps few room);
+      fits = small_sums streams up r taps inside are_taps few room;
       deep = deep_terms up r taps inside;
       low = let low = low_levels up taps few in omega arith;
-      root = λ all width own. root_room streams up r taps inside are_taps few room width (subst (λ (n : ℕ). IsFormWidth streams (form_of n (placed_terms up r taps)) width) (sym long) own);
+      root = λ all width own. root_room streams up r taps inside are_taps few room width own;
     } in
     subst (λ (n : ℕ). IsReady streams cells window ts n) (sym same) (subst (λ (us : List Term). IsReady streams cells window us (levels_of taps up)) (sym e) ready)

@@ -30,6 +30,7 @@ use Rattle.net_graph.specs.Depth.{IsPlain, IsShallow}
 use Rattle.pipeline_balance.specs.Shallow.{ArePlain}
 use Rattle.pipeline_balance.proofs.ShallowLemmas.{ArePlain-later}
 use Rattle.stage_law.specs.Streams.{Streams, AreCausal}
+use Rattle.polyphase_fir.specs.declared.held.Held.{Held}
 use Rattle.polyphase_fir.specs.Placed.{placed_terms, adders_for, term_adders, leaf_of}
 use Rattle.polyphase_fir.specs.Facts.{adders_below}
 use Rattle.polyphase_fir.specs.Cutting.{IsWideWindow, IsCutWindow}
@@ -87,9 +88,9 @@ IsRoot-later {old} {new} {from} {levels} {taps} {up} {r} {root} streams e p = re
 
 -- ---- one phase
 
-pub IsRoot-tree : {mid new : NetView} {from : Stream} {window : List Node} {registers : List Node} {root : Node} {levels : ℕ} (streams : Streams) → AreCausal streams → (taps : List ℤ) (up r : ℕ) → r < up → 1 ≤ from.period → IsCutWindow streams mid.cells from window → ceil_div (length taps) up ≡ length window
-    → AddsTree streams mid new window (placed_terms up r taps) levels registers root → IsRoot streams new.cells from levels taps up r root
-IsRoot-tree {mid} {new} {from} {window} {registers} {root} {levels} streams causal taps up r inside positive w long t = record {
+pub IsRoot-tree : {mid new : NetView} {from : Stream} {window : List Node} {held : List Held} {registers : List Node} {root : Node} {levels : ℕ} (streams : Streams) → AreCausal streams → (taps : List ℤ) (up r : ℕ) → r < up → 1 ≤ from.period → IsCutWindow streams mid.cells from window → ceil_div (length taps) up ≡ length window
+    → AddsTree streams mid new window (placed_terms up r taps) levels held registers root → IsRoot streams new.cells from levels taps up r root
+IsRoot-tree {mid} {new} {from} {window} {held} {registers} {root} {levels} streams causal taps up r inside positive w long t = record {
   within = t.tree.within;
   shows = λ cut law x values run v is carried s k taken.
       let ts = placed_terms up r taps in
@@ -122,8 +123,8 @@ plain_leaves cells group window plain (t ∷ ts) below (suc k) leaf e = plain_le
 pub SumsWindow-none : (net : NetView) (window : List Node) → SumsWindow net net window
 SumsWindow-none net window = record { shallow = λ s plain. s }
 
-pub SumsWindow-push : {old mid new : NetView} {window : List Node} {registers : List Node} {root : Node} {levels : ℕ} (streams : Streams) (taps : List ℤ) (up r : ℕ) → r < up → ceil_div (length taps) up ≡ length window → mid.group ≡ old.group → Extends old.cells mid.cells
-    → SumsWindow old mid window → AddsTree streams mid new window (placed_terms up r taps) levels registers root → SumsWindow old new window
+pub SumsWindow-push : {old mid new : NetView} {window : List Node} {held : List Held} {registers : List Node} {root : Node} {levels : ℕ} (streams : Streams) (taps : List ℤ) (up r : ℕ) → r < up → ceil_div (length taps) up ≡ length window → mid.group ≡ old.group → Extends old.cells mid.cells
+    → SumsWindow old mid window → AddsTree streams mid new window (placed_terms up r taps) levels held registers root → SumsWindow old new window
 SumsWindow-push {old} {mid} {new} {window} streams taps up r inside long same e p t = record {
   shallow = λ s plain.
       let places : All (λ (u : Term). u.index < length window) (placed_terms up r taps) = subst (λ (n : ℕ). All (λ (u : Term). u.index < n) (placed_terms up r taps)) long (placed_below up r taps (omega arith)) in
@@ -143,9 +144,9 @@ AddsRoots-none streams net from levels taps up = record {
   names = LeavesFree-refl net.cells (IsTouched net.group Register);
 }
 
-pub AddsRoots-push : {old mid new : NetView} {from : Stream} {window roots : List Node} {registers : List Node} {root : Node} {levels : ℕ} (streams : Streams) → AreCausal streams → (taps : List ℤ) (up : ℕ) → length roots < up → 1 ≤ from.period → IsCutWindow streams mid.cells from window → ceil_div (length taps) up ≡ length window
-    → AddsRoots streams old mid from levels taps up roots → AddsTree streams mid new window (placed_terms up (length roots) taps) levels registers root → AddsRoots streams old new from levels taps up (roots ++ root ∷ [])
-AddsRoots-push {old} {mid} {new} {from} {window} {roots} {registers} {root} {levels} streams causal taps up inside positive w long p t =
+pub AddsRoots-push : {old mid new : NetView} {from : Stream} {window roots : List Node} {held : List Held} {registers : List Node} {root : Node} {levels : ℕ} (streams : Streams) → AreCausal streams → (taps : List ℤ) (up : ℕ) → length roots < up → 1 ≤ from.period → IsCutWindow streams mid.cells from window → ceil_div (length taps) up ≡ length window
+    → AddsRoots streams old mid from levels taps up roots → AddsTree streams mid new window (placed_terms up (length roots) taps) levels held registers root → AddsRoots streams old new from levels taps up (roots ++ root ∷ [])
+AddsRoots-push {old} {mid} {new} {from} {window} {roots} {held} {registers} {root} {levels} streams causal taps up inside positive w long p t =
     let same = p.grows.group in
     let count : length (roots ++ root ∷ []) ≡ length roots + 1 = length-append roots (root ∷ []) in
     let next : suc (length roots) ≡ length (roots ++ root ∷ []) = omega (arith, count) in

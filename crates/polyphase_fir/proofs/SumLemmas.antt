@@ -20,14 +20,14 @@ mapped_all P f (t ∷ ts) h zero leaf e = let same : f t ≡ leaf = cc in subst 
 mapped_all P f (t ∷ ts) h (suc k) leaf e = mapped_all P f ts (All-tail (λ (u : Term). P (f u)) t ts h) k leaf e
 
 -- where a register stands
-record Stands (n levels k : ℕ) : Type 0 where
-  level : ℕ
-  j : ℕ
-  low : level < levels
-  within : j < level_count n (suc level)
-  at : k ≡ count_to n level + j
+pub record Stands (n levels k : ℕ) : Type 0 where
+  pub level : ℕ
+  pub j : ℕ
+  pub low : level < levels
+  pub within : j < level_count n (suc level)
+  pub at : k ≡ count_to n level + j
 
-stands : (n levels k : ℕ) → k < count_to n levels → Stands n levels k
+pub stands : (n levels k : ℕ) → k < count_to n levels → Stands n levels k
 stands n zero k h = absurd (omega arith)
 stands n (suc levels) k h = elim (cases_lt k (count_to n levels)) [
   | inl less ↦ let s = stands n levels k less in record { level = s.level; j = s.j; low = let l = s.low in omega arith; within = s.within; at = s.at }
@@ -35,8 +35,8 @@ stands n (suc levels) k h = elim (cases_lt k (count_to n levels)) [
 ]
 
 -- each width is one
-pub wide_all : (streams : Streams) (depth : ℕ) (terms : List Term) (levels : ℕ) (widths : List ℕ) → AreTreeWidths streams depth terms levels widths → (k : ℕ) → k < length widths → IsWidth (get_or widths k 0)
-wide_all streams depth terms levels widths w k h =
+pub wide_all : (streams : Streams) (terms : List Term) (levels : ℕ) (widths : List ℕ) → AreTreeWidths streams terms levels widths → (k : ℕ) → k < length widths → IsWidth (get_or widths k 0)
+wide_all streams terms levels widths w k h =
     let count = w.count in
     let s = stands (length terms) levels k (omega arith) in
     let own = w.each s.level s.j s.low s.within in
@@ -46,10 +46,10 @@ whole_segment : (level : ℕ) (terms : List Term) → length terms ≤ 2 ^ level
 whole_segment level terms h = let none : 0 * 2 ^ level ≡ 0 = omega arith in ap (λ (n : ℕ). take (2 ^ level) (drop n terms)) none ∙ take_all (2 ^ level) terms h
 
 -- the last width is that of all terms
-pub root_narrow : (streams : Streams) (depth : ℕ) (terms : List Term) (levels : ℕ) (widths : List ℕ) → AreTreeWidths streams depth terms levels widths → length terms ≤ 2 ^ levels → 1 ≤ levels
-    → ((width : ℕ) → IsFormWidth streams (form_of depth terms) width → width ≤ 127) → get_or widths (length widths - 1) 0 ≤ 127
-root_narrow streams depth terms zero widths w deep some narrow = absurd (omega arith)
-root_narrow streams depth terms (suc before) widths w deep some narrow = elim (cases_eq (length widths) 0) [
+pub root_narrow : (streams : Streams) (terms : List Term) (levels : ℕ) (widths : List ℕ) → AreTreeWidths streams terms levels widths → length terms ≤ 2 ^ levels → 1 ≤ levels
+    → ((width : ℕ) → IsFormWidth streams (form_of terms) width → width ≤ 127) → get_or widths (length widths - 1) 0 ≤ 127
+root_narrow streams terms zero widths w deep some narrow = absurd (omega arith)
+root_narrow streams terms (suc before) widths w deep some narrow = elim (cases_eq (length widths) 0) [
   | inl none ↦ let past : get_or widths (length widths - 1) 0 ≡ 0 = get_or_past widths (length widths - 1) 0 (omega arith) in omega arith
   | inr more ↦
       let count = w.count in
@@ -59,8 +59,8 @@ root_narrow streams depth terms (suc before) widths w deep some narrow = elim (c
         | inr filled ↦
             let one = level_count_one (length terms) (suc before) deep (omega arith) in
             let at : length widths - 1 ≡ count_to (length terms) before + 0 = omega arith in
-            let own : IsFormWidth streams (form_of depth (term_segment (suc before) 0 terms)) (get_or widths (count_to (length terms) before + 0) 0) = w.each before 0 (omega arith) (omega arith) in
-            let whole : IsFormWidth streams (form_of depth terms) (get_or widths (count_to (length terms) before + 0) 0) = subst (λ (ts : List Term). IsFormWidth streams (form_of depth ts) (get_or widths (count_to (length terms) before + 0) 0)) (whole_segment (suc before) terms deep) own in
+            let own : IsFormWidth streams (form_of (term_segment (suc before) 0 terms)) (get_or widths (count_to (length terms) before + 0) 0) = w.each before 0 (omega arith) (omega arith) in
+            let whole : IsFormWidth streams (form_of terms) (get_or widths (count_to (length terms) before + 0) 0) = subst (λ (ts : List Term). IsFormWidth streams (form_of ts) (get_or widths (count_to (length terms) before + 0) 0)) (whole_segment (suc before) terms deep) own in
             subst (λ (n : ℕ). get_or widths n 0 ≤ 127) (sym at) (narrow (get_or widths (count_to (length terms) before + 0) 0) whole)
       ]
 ]

@@ -13,17 +13,16 @@ use Rattle.net_graph.specs.Run.{Values, IsRun}
 use Rattle.net_graph.specs.Grow.{Grows}
 use Rattle.pipeline_balance.specs.Costs.{SameAdders, SameNamed}
 use Rattle.pipeline_balance.specs.Gate.{Carries, Holds}
-use Rattle.pipeline_balance.specs.Numbered.{LeavesFree, IsTouched}
+use Rattle.pipeline_balance.specs.Numbered.{IsRegister, IsCounted, LeavesFree, IsTouched, name_of}
 use Rattle.pipeline_balance.specs.Shallow.{ArePlain}
 use Rattle.stage_law.specs.Streams.{Streams}
 use Rattle.polyphase_fir.specs.Held.{IsFormWidth}
 
--- the node `to` of the new net has at most this width, and the value of the node `from` wherever that fits
+-- the node `to` of the new net has this width, and the value of the node `from` wherever that fits
 pub record IsNarrowed (old new : NetView) (from : Node) (width : ℕ) (to : Node) : Type 0 where
   pub grows : Grows old new
   pub within : to.place < length new.cells
-  pub some : 1 ≤ (cell_at new.cells to.place).width
-  pub most : (cell_at new.cells to.place).width ≤ width
+  pub wide : (cell_at new.cells to.place).width ≡ width
   pub keeps : (cut : Cut) → IsCut cut → (inputs : ℕ → ℤ) (values : Values) → IsRun cut new.cells inputs values → (t : ℕ) → FitsWidth width (values t from.place) → values t to.place ≡ values t from.place
   pub adders : SameAdders old.cells new.cells
   pub named : SameNamed old.cells new.cells
@@ -43,7 +42,8 @@ pub record IsCutWindow (streams : Streams) (cells : List Cell) (from : Stream) (
   pub carries : (cut : Cut) → IsCut cut → (inputs : ℕ → ℤ) (values : Values) (v : Sequence) → streams v → IsRun cut cells inputs values → Carries values from v → Carries values taken v
   pub holds : (age : ℕ) (node : Node) → slice_get nodes age ≡ Some node → Holds cells taken age node
 
--- the new net has such a window, and so many window registers more, before which no adder stands
+-- the new net has such a window, and so many window registers more, numbered from 0, of the width that its values need, before which no
+-- adder stands
 pub record AddsWindow (streams : Streams) (old new : NetView) (from : Stream) (nodes : List Node) : Type 0 where
   pub grows : Grows old new
   pub window : IsCutWindow streams new.cells from nodes
@@ -52,4 +52,6 @@ pub record AddsWindow (streams : Streams) (old new : NetView) (from : Stream) (n
   pub adders : SameAdders old.cells new.cells
   pub windows : windows_in old.group new.cells ≡ windows_in old.group old.cells + length nodes
   pub tables : tables_in old.group new.cells ≡ tables_in old.group old.cells
+  pub registers : (age : ℕ) (node : Node) → slice_get nodes age ≡ Some node → IsRegister new.cells node.place old.group (name_of old.group Window age) wide.width
+  pub counted : IsCounted new.cells old.group Window (length nodes)
   pub names : LeavesFree old.cells new.cells (IsTouched old.group Window)

@@ -1,14 +1,17 @@
 -- What a parallel filter between an Up and a Down is, as a stage.
-use Rattle.std.specs.Prelude.{ℕ, zero, suc, ◌+◌, ◌<◌, ◌≤◌, ◌≡◌, ◌^◌, List, [], ◌∷◌, length, ℤ, pos, ◌*◌, ◌%◌}
+use Rattle.std.specs.Prelude.{ℕ, zero, suc, ◌+◌, ◌<◌, ◌≤◌, ◌≡◌, ◌^◌, List, [], ◌∷◌, ◌++◌, length, ℤ, pos, ◌*◌, ◌%◌}
 use Rattle.mr_values.specs.declared.plan.Element.{Element}
 use Rattle.mr_values.specs.declared.plan.Element.TheVariants.{Up, Down, Filter}
 use Rattle.mr_values.specs.declared.plan.Form.TheVariants.{Parallel}
 use Rattle.mr_values.specs.Timing.{ceil_div, ceil_log, terms, greatest}
+use Rattle.net_graph.specs.declared.name.NameKind.TheVariants.{Window, Register}
 use Rattle.signed_digit.specs.Terms.{terms_of}
 use Rattle.stage_law.specs.Facts.{StageFacts}
+use Rattle.stage_law.specs.Registers.{StageRegister}
 use Rattle.stage_law.specs.Streams.{magnitudes}
 use Rattle.stage_law.specs.declared.stage.Kind.TheVariants.{Parallel as ParallelKind}
 use Rattle.polyphase_fir.specs.Placed.{term_adders}
+use Rattle.polyphase_fir.specs.Listed.{window_sums, phase_sums, numbered}
 
 -- the adders of the trees of the phases below r
 abbrev pub adders_below : ℕ → List ℤ → ℕ → ℕ
@@ -22,6 +25,10 @@ elements_of taps up down = Up (pos up) ∷ Filter taps Parallel ∷ Down (pos do
 abbrev pub levels_of : List ℤ → ℕ → ℕ
 levels_of taps up = ceil_log (greatest terms up taps)
 
+-- the window's registers, and those of the trees, phase by phase
+abbrev pub registers_of : List ℤ → ℕ → List StageRegister
+registers_of taps up = numbered Window 0 (window_sums (ceil_div (length taps) up)) ++ numbered Register 0 (phase_sums up taps (levels_of taps up) up)
+
 abbrev pub polyphase_facts : List ℤ → ℕ → ℕ → StageFacts
 polyphase_facts taps up down = record {
   kind = ParallelKind;
@@ -34,6 +41,7 @@ polyphase_facts taps up down = record {
   windows = ceil_div (length taps) up;
   tables = 0;
   longest = ceil_div (length taps) up + 1;
+  registers = λ period. registers_of taps up;
 }
 
 -- the streams of these periods are taken: the values that are given stand a whole number of ticks apart

@@ -1,5 +1,5 @@
 -- What a register holds, as weights of the places of a window.
-use Rattle.std.specs.Prelude.{ℕ, ◌^◌, List, [], ◌∷◌, replicate, slice_set, slice_index_or, Bool, ℤ, pos, ◌+ℤ◌}
+use Rattle.std.specs.Prelude.{ℕ, suc, ◌-◌, ◌^◌, max, List, [], ◌∷◌, replicate, slice_set, slice_index_or, Bool, ℤ, pos, ◌+ℤ◌}
 use Rattle.mr_values.specs.Digit.{with_sign}
 use Rattle.signed_digit.specs.declared.term_list.Term.{Term}
 use Rattle.pipeline_balance.specs.Leaves.{signed_by}
@@ -17,6 +17,15 @@ abbrev pub with_terms : Bool → List ℤ → List Term → List ℤ
 with_terms negated form [] = form
 with_terms negated form (t ∷ ts) = with_terms negated (with_term negated form t) ts
 
--- the weights of these terms, or of their negations where all are negative, over so many places
-abbrev pub form_of : ℕ → List Term → List ℤ
-form_of depth terms = with_terms (all_minus terms) (replicate depth (pos 0)) terms
+-- how many places there are up to the last that a term weighs
+abbrev pub reach_of : List Term → ℕ
+reach_of [] = 0
+reach_of (t ∷ ts) = max (suc t.index) (reach_of ts)
+
+-- the weights of these terms, or of their negations where all are negative
+abbrev pub form_of : List Term → List ℤ
+form_of terms = with_terms (all_minus terms) (replicate (reach_of terms) (pos 0)) terms
+
+-- the term at a place so many places before
+abbrev pub moved : ℕ → Term → Term
+moved behind t = record { index = t.index - behind; place = t.place; negative = t.negative }

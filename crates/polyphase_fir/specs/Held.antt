@@ -1,18 +1,17 @@
 -- The least widths of the registers of a tree.
-use Rattle.std.specs.Prelude.{◌≡◌, ℕ, suc, ◌+◌, ◌*◌, ◌^◌, ◌<◌, ◌≤◌, List, length, get_or, ℤ, All}
+use Rattle.std.specs.Prelude.{◌≡◌, ℕ, suc, ◌+◌, ◌*◌, ◌^◌, ◌<◌, ◌≤◌, ◌++◌, List, length, map, get_or, ℤ, All, Some, slice_get}
 use Rattle.mr_values.specs.Width.{IsLeastWidth}
 use Rattle.signed_digit.specs.declared.term_list.Term.{Term}
 use Rattle.pipeline_balance.specs.Tree.{level_count, count_to}
 use Rattle.stage_law.specs.Range.{IsRange}
+use Rattle.stage_law.specs.Registers.{HeldSum}
 use Rattle.stage_law.specs.Streams.{Streams, AreWithin}
-use Rattle.stage_law.specs.declared.ranges.Class.{Class}
+use Rattle.stage_law.specs.Weights.{weights_of}
 use Rattle.stage_law.specs.declared.ranges.Range.{Range}
+use Rattle.polyphase_fir.specs.declared.held.Held.{Held}
 use Rattle.polyphase_fir.specs.Placed.{term_segment, powers}
 use Rattle.polyphase_fir.specs.Form.{form_of}
-
--- every index
-abbrev pub every : Class
-every = record { modulus = 1; residue = 0 }
+use Rattle.polyphase_fir.specs.Listed.{every}
 
 -- the width is the least that holds each sum of the form over the streams
 pub record IsFormWidth (streams : Streams) (form : List ℤ) (width : ℕ) : Type 0 where
@@ -21,14 +20,13 @@ pub record IsFormWidth (streams : Streams) (form : List ℤ) (width : ℕ) : Typ
   pub least : IsLeastWidth range.lo range.hi width
 
 -- the widths of the registers of a tree over these terms, level by level
-pub record AreTreeWidths (streams : Streams) (depth : ℕ) (terms : List Term) (levels : ℕ) (widths : List ℕ) : Type 0 where
+pub record AreTreeWidths (streams : Streams) (terms : List Term) (levels : ℕ) (widths : List ℕ) : Type 0 where
   pub count : length widths ≡ count_to (length terms) levels
   pub each : (level j : ℕ) → level < levels → j < level_count (length terms) (suc level)
-      → IsFormWidth streams (form_of depth (term_segment (suc level) j terms)) (get_or widths (count_to (length terms) level + j) 0)
+      → IsFormWidth streams (form_of (term_segment (suc level) j terms)) (get_or widths (count_to (length terms) level + j) 0)
 
--- the terms weigh places of a window of this depth, are not too many, and their sums over the streams are not too great
-pub record FitWindow (streams : Streams) (depth : ℕ) (terms : List Term) : Type 0 where
-  pub places : All (λ t. t.index < depth) terms
+-- the terms are not too many, and their sums over the streams are not too great
+pub record AreSmall (streams : Streams) (terms : List Term) : Type 0 where
   pub short : All (λ t. t.place ≤ 90) terms
   pub small : powers terms ≤ 2 ^ 90
   pub few : length terms ≤ 2 ^ 32
@@ -36,8 +34,20 @@ pub record FitWindow (streams : Streams) (depth : ℕ) (terms : List Term) : Typ
   pub within : AreWithin streams most
   pub room : most * powers terms ≤ 2 ^ 126
 
--- the new list has the widths of the first registers of one level more
-pub record AddsWidths (streams : Streams) (depth : ℕ) (terms : List Term) (level count : ℕ) (old new : List ℕ) : Type 0 where
-  pub long : length new ≡ length old + count
-  pub kept : (k : ℕ) → k < length old → get_or new k 0 ≡ get_or old k 0
-  pub each : (j : ℕ) → j < count → IsFormWidth streams (form_of depth (term_segment (suc level) j terms)) (get_or new (length old + j) 0)
+-- these are the form's sums over the streams, with their range, so many ticks after the stream's value
+pub record IsHeld (streams : Streams) (form : List ℤ) (lag : ℕ) (own : Held) : Type 0 where
+  pub is_form : weights_of own.sum ≡ form
+  pub is_lag : own.lag ≡ lag
+  pub is_range : IsRange streams form every own.range
+
+abbrev pub held_sum : Held → HeldSum
+held_sum own = record { form = weights_of own.sum; class = every; lag = own.lag }
+
+-- these are the sums of the list, with their ranges over the streams
+pub record AreHeld (streams : Streams) (sums : List HeldSum) (held : List Held) : Type 0 where
+  pub same : map held_sum held ≡ sums
+  pub each : (k : ℕ) (own : Held) → slice_get held k ≡ Some own → IsRange streams (weights_of own.sum) every own.range
+
+-- the new list has these sums more
+pub record AddsHeld (streams : Streams) (more : List HeldSum) (old new : List Held) : Type 0 where
+  pub then_held : (sums : List HeldSum) → AreHeld streams sums old → AreHeld streams (sums ++ more) new

@@ -1,6 +1,8 @@
 pub mod Placed
 pub mod Form
+pub mod Listed
 pub mod Held
+pub mod Peaks
 pub mod Sums
 pub mod Cutting
 pub mod Roots

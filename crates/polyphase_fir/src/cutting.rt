@@ -14,7 +14,7 @@ use pipeline_balance::window;
 use stage_law::{Class, Ranges, WeightedSum};
 use std::alloc::Global;
 
-// The node, cut to this width where it is wider.
+// The node, cut or extended to this width.
 fn narrowed(net: &mut Net, from: Node, width: u8) -> Result<Node, Memory>
     requires within { from.place < length net.old.cells }
     requires data_group { 1 ≤ net.old.group }
@@ -24,7 +24,7 @@ fn narrowed(net: &mut Net, from: Node, width: u8) -> Result<Node, Memory>
     ensures group { net.new.group ≡ net.old.group }
     ensures err { OnErr result (net.new ≡ net.old) }
 {
-    if net.width(from) <= width {
+    if net.width(from) == width {
         return Ok(from);
     }
     let to = net.shl(from, 0, width)?;

@@ -2,10 +2,12 @@
 
 ghost use Rattle.std.specs.Prelude.{◌≡◌, ℕ, ◌^◌, ◌<◌, ◌≤◌, All, IfOk, length, pos, slice_index_or, unsigned_abs, ◌↔◌, IsTrue, true};
 ghost use Rattle.polyphase_fir.specs.Placed.{all_minus, powers};
-ghost use Rattle.polyphase_fir.specs.Form.{power_of, with_term, form_of};
+ghost use Rattle.polyphase_fir.specs.Form.{power_of, with_term, reach_of, form_of, moved};
+ghost use Rattle.stage_law.specs.Weights.{weights_of};
 
 use mr_values::{Memory, power};
 use signed_digit::Term;
+use stage_law::WeightedSum;
 use std::alloc::Global;
 
 /// Whether each term is negative.
@@ -45,17 +47,54 @@ fn add_term(form: &mut Vec<i128>, term: Term, negated: bool)
     form[place] = weight;
 }
 
-/// The weights of these terms, or of their negations where all are negative, over so many places of a window.
-pub(crate) fn form_of(alloc: Global, terms: &[Term], depth: u32) -> Result<Vec<i128>, Memory>
-    requires places { All (λ t. t.index < depth) terms.now }
+// How many places there are up to the last that a term weighs.
+fn reach_of(terms: &[Term]) -> u64
+    ensures value { result ≡ reach_of terms.now }
+    ensures small { result ≤ 2 ^ 32 }
+{
+    let mut reach = 0;
+    for term in terms {
+        reach = reach.max(u64::from(term.index) + 1);
+    }
+    reach
+}
+
+// The least place that a term weighs, or `most` where each lies behind that.
+fn first_place(terms: &[Term], most: u64) -> u64
+    ensures least { All (λ t. result ≤ t.index) terms.now }
+    ensures most { result ≤ most }
+{
+    let mut least = most;
+    for term in terms {
+        least = least.min(u64::from(term.index));
+    }
+    least
+}
+
+// The term at a place so many places before.
+fn moved(term: Term, behind: u64) -> Term
+    requires { behind ≤ term.index }
+    ensures { result ≡ moved behind term }
+{
+    Term {
+        index: term.index - behind as u32,
+        place: term.place,
+        negative: term.negative,
+    }
+}
+
+/// The sum of these terms, or of their negations where all are negative: from the first place that a term weighs to the last.
+pub(crate) fn sum_of(alloc: Global, terms: &[Term]) -> Result<WeightedSum, Memory>
     requires short { All (λ t. t.place ≤ 90) terms.now }
     requires small { powers terms.now ≤ 2 ^ 90 }
-    ensures { IfOk result (λ form. form.items ≡ form_of depth terms.now) }
+    ensures { IfOk result (λ sum. weights_of sum ≡ form_of terms.now) }
 {
     let negated = all_minus(terms);
-    let mut form = vec![in alloc; 0i128; depth as usize]?;
+    let reach = reach_of(terms);
+    let behind = first_place(terms, reach);
+    let mut weights = vec![in alloc; 0i128; (reach - behind) as usize]?;
     for term in terms {
-        add_term(&mut form, *term, negated);
+        add_term(&mut weights, moved(*term, behind), negated);
     }
-    Ok(form)
+    Ok(WeightedSum { behind, weights })
 }

@@ -4,8 +4,10 @@
 mod counts;
 mod cutting;
 mod forms;
+mod held;
 mod leaves;
 mod numbers;
+mod peaks;
 mod phases;
 mod places;
 mod polyphase;

@@ -1,6 +1,7 @@
 -- What a stage is, as the chain sees it.
 use Rattle.std.specs.Prelude.{ℕ, List}
 use Rattle.mr_values.specs.declared.plan.Element.{Element}
+use Rattle.stage_law.specs.Registers.{StageRegister}
 use Rattle.stage_law.specs.declared.stage.Kind.{Kind}
 
 pub record StageFacts : Type 0 where
@@ -19,3 +20,5 @@ pub record StageFacts : Type 0 where
   pub tables : ℕ
   -- the greatest length of a form of its peaks
   pub longest : ℕ
+  -- the registers of a linear stage, by the period of its stream
+  pub registers : ℕ → List StageRegister

@@ -1,61 +1,76 @@
--- The registers of a linear stage: each holds in the run what it holds uncut, and has the least width for it.
-use Rattle.std.specs.Prelude.{◌≡◌, ℕ, ◌+◌, ◌-◌, ◌*◌, ◌<◌, ◌≤◌, ◌⊎◌, ℤ, pos, Bool, if◌then◌else◌, true, List, length, Some, slice_get}
+-- The registers of a linear stage in its net: each holds its sums, in the run as uncut, and has the least width for them.
+use Rattle.std.specs.Prelude.{◌≡◌, ℕ, ◌+◌, ◌*◌, ◌<◌, ◌≤◌, ℤ, pos, List, length, map, Some, slice_get}
 use Rattle.mr_values.specs.Sequence.{Sequence, filter}
-use Rattle.mr_values.specs.Width.{FitsWidth}
 use Rattle.net_graph.specs.declared.cell.Cell.{Cell}
 use Rattle.net_graph.specs.declared.cell.Node.{Node}
 use Rattle.net_graph.specs.declared.cell.Stream.{Stream}
-use Rattle.net_graph.specs.declared.cell.Item.TheVariants.{Register}
-use Rattle.net_graph.specs.Cells.{NetView}
+use Rattle.net_graph.specs.declared.name.NameKind.{NameKind}
+use Rattle.net_graph.specs.declared.name.NameKind.TheVariants.{Control}
+use Rattle.net_graph.specs.Cells.{cell_at}
 use Rattle.net_graph.specs.Cut.{Cut, IsCut, cut_all, cut_control}
-use Rattle.net_graph.specs.Name.{is_control}
 use Rattle.net_graph.specs.Run.{Values, IsRun}
+use Rattle.net_graph.specs.WellFormed.{IsFree}
 use Rattle.pipeline_balance.specs.Gate.{Carries}
+use Rattle.pipeline_balance.specs.Numbered.{IsRegister, name_of}
 use Rattle.stage_law.specs.Facts.{StageFacts}
-use Rattle.stage_law.specs.Range.{InClass, IsRange}
+use Rattle.stage_law.specs.Range.{InClass}
+use Rattle.stage_law.specs.Registers.{HeldSum, StageRegister, Telling, TellsRanges, NamedPeak, bits_of, peaks_of}
 use Rattle.stage_law.specs.Streams.{Streams}
 use Rattle.stage_law.specs.Weights.{weights_of}
-use Rattle.stage_law.specs.declared.ranges.Range.{Range}
 use Rattle.stage_law.specs.declared.stage.Peak.{Peak}
 
--- the node was added, is no control, and is a register of this width
-pub record IsAddedRegister (old new : NetView) (node : Node) (width : ℕ) : Type 0 where
-  pub added : length old.cells ≤ node.place
-  pub cell : Cell
-  pub there : slice_get new.cells node.place ≡ Some cell
-  pub is_data : is_control cell ≡ true → ⊥
-  pub wide : cell.width ≡ width
-  pub next : Node
-  pub registers : cell.item ≡ Some (Register next)
+-- ---- one register
 
 -- the node has the same value in the run and in the uncut run, where the stream carries one of these in both
 pub record IsKeptWhole (streams : Streams) (cells : List Cell) (from : Stream) (node : Node) : Type 0 where
   pub same : (inputs : ℕ → ℤ) (values whole : Values) (v : Sequence) → streams v → IsRun cut_all cells inputs values → IsRun cut_control cells inputs whole
       → Carries values from v → Carries whole from v → (t : ℕ) → values t node.place ≡ whole t node.place
 
--- the end of a range that is meant
-abbrev pub end_of : Bool → Range → ℤ
-end_of high range = if high then range.hi else range.lo
+-- in every run, however it is cut, where the stream carries one of these, the node holds the sum so many ticks after each value of the class
+pub record HoldsSum (streams : Streams) (cells : List Cell) (from : Stream) (node : Node) (s : HeldSum) : Type 0 where
+  pub at : (cut : Cut) → IsCut cut → (inputs : ℕ → ℤ) (values : Values) (v : Sequence) → streams v → IsRun cut cells inputs values → Carries values from v
+      → (k : ℕ) → InClass s.class k → values (from.offset + k * from.period + s.lag) node.place ≡ filter s.form v (pos k)
 
--- the register holds the sum, and the end of its range that is named doesn't fit one bit less than its width
-pub record IsPeak (facts : StageFacts) (streams : Streams) (cells : List Cell) (from : Stream) (width : ℕ) (peak : Peak) : Type 0 where
-  pub class : peak.class.residue < peak.class.modulus
-  pub holds : (cut : Cut) → IsCut cut → (inputs : ℕ → ℤ) (values : Values) (v : Sequence) → streams v → IsRun cut cells inputs values → Carries values from v
-      → (k : ℕ) → InClass peak.class k → values (from.offset + k * from.period + peak.lag) peak.register.place ≡ filter (weights_of peak.sum) v (pos k)
-  pub soon : peak.lag ≤ from.period + facts.delay from.period
-  pub short : length (weights_of peak.sum) ≤ facts.longest
+-- The net has this register of its group. It holds its sums, in the run as uncut, and is as wide as these need, whatever tells their ranges.
+pub record HasStageRegister (streams : Streams) (cells : List Cell) (group : ℕ) (from : Stream) (r : StageRegister) : Type 0 where
+  pub node : Node
+  pub width : ℕ
+  pub register : IsRegister cells node.place group (name_of group r.kind r.number) width
+  pub least : (range : Telling) → TellsRanges streams range → width ≡ bits_of range r.sums
+  pub holds : (i : ℕ) (s : HeldSum) → slice_get r.sums i ≡ Some s → HoldsSum streams cells from node s
+  pub kept_whole : IsKeptWhole streams cells from node
+
+-- ---- all registers
+
+-- the list has a register of this kind and number
+pub record IsListed (registers : List StageRegister) (kind : NameKind) (number : ℕ) : Type 0 where
+  pub index : ℕ
+  pub r : StageRegister
+  pub there : slice_get registers index ≡ Some r
+  pub is_kind : r.kind ≡ kind
+  pub is_number : r.number ≡ number
+
+-- a sum is due soon after its value, of few values, and at indices that the stage takes anew for each of its values
+pub record IsTimely (facts : StageFacts) (period : ℕ) (s : HeldSum) : Type 0 where
+  pub class : s.class.residue < s.class.modulus
+  pub soon : s.lag ≤ period + facts.delay period
+  pub short : length s.form ≤ facts.longest
   pub times : ℕ
-  pub divides : facts.down ≡ times * peak.class.modulus
-  pub range : Range
-  pub is_range : IsRange streams (weights_of peak.sum) peak.class range
-  pub least : FitsWidth (width - 1) (end_of peak.high range) → ⊥
+  pub divides : facts.down ≡ times * s.class.modulus
 
--- the register has the least width: 1, or there is a peak of it
-abbrev pub IsLeast : StageFacts → Streams → List Cell → Stream → List Peak → Node → ℕ → Type 0
-IsLeast facts streams cells from peaks node width =
-    (width ≡ 1) ⊎ ((i : ℕ) × (peak : Peak) × (slice_get peaks i ≡ Some peak) × (peak.register ≡ node) × IsPeak facts streams cells from width peak)
+-- a peak with the name of its register
+abbrev pub named_peak : List Cell → Peak → NamedPeak
+named_peak cells peak = record {
+  name = (cell_at cells peak.register.place).name;
+  sum = record { form = weights_of peak.sum; class = peak.class; lag = peak.lag };
+  high = peak.high;
+}
 
--- each register of a linear stage is kept whole and has the least width
-pub record HasLeastRegisters (facts : StageFacts) (streams : Streams) (old new : NetView) (from : Stream) (peaks : List Peak) : Type 0 where
-  pub kept_whole : (node : Node) (width : ℕ) → IsAddedRegister old new node width → IsKeptWhole streams new.cells from node
-  pub least : (node : Node) (width : ℕ) → IsAddedRegister old new node width → IsLeast facts streams new.cells from peaks node width
+-- The names of the group, but for control, are those of the list's registers, and each has its register. The peaks are those of the list,
+-- in its order.
+pub record HasRegisters (facts : StageFacts) (streams : Streams) (cells : List Cell) (group : ℕ) (from : Stream) (peaks : List Peak) : Type 0 where
+  pub some : (i : ℕ) (r : StageRegister) → slice_get (facts.registers from.period) i ≡ Some r → 1 ≤ length r.sums
+  pub timely : (i j : ℕ) (r : StageRegister) (s : HeldSum) → slice_get (facts.registers from.period) i ≡ Some r → slice_get r.sums j ≡ Some s → IsTimely facts from.period s
+  pub each : (i : ℕ) (r : StageRegister) → slice_get (facts.registers from.period) i ≡ Some r → HasStageRegister streams cells group from r
+  pub only : (kind : NameKind) (number : ℕ) → (kind ≡ Control → ⊥) → (IsFree cells (name_of group kind number) → ⊥) → IsListed (facts.registers from.period) kind number
+  pub told : (range : Telling) → TellsRanges streams range → map (named_peak cells) peaks ≡ peaks_of range group (facts.registers from.period)

@@ -1,7 +1,9 @@
 -- The registers of a linear stage, the sums that they hold, and their widths as functions of the ranges of sums.
-use Rattle.std.specs.Prelude.{ℕ, ◌<◌, max, nat_eq, if◌then◌else◌, Bool, Option, None, Some, List, [], ◌∷◌, ℤ}
+use Rattle.std.specs.Prelude.{ℕ, ◌<◌, max, nat_eq, if◌then◌else◌, Bool, Option, None, Some, List, [], ◌∷◌, ◌++◌, ℤ}
 use Rattle.mr_values.specs.Timing.{signed_bits, wide}
+use Rattle.net_graph.specs.declared.name.Name.{Name}
 use Rattle.net_graph.specs.declared.name.NameKind.{NameKind}
+use Rattle.pipeline_balance.specs.Numbered.{name_of}
 use Rattle.stage_law.specs.Range.{IsRange}
 use Rattle.stage_law.specs.Streams.{Streams}
 use Rattle.stage_law.specs.declared.ranges.Class.{Class}
@@ -46,3 +48,24 @@ needing range bits (s ∷ sums) = if nat_eq (bits_for (range s.form s.class)) bi
 -- whether the greatest number of a range needs so many bits
 abbrev pub needs_high : Range → ℕ → Bool
 needs_high r bits = nat_eq (signed_bits r.hi) bits
+
+-- ---- peaks
+
+-- a register by its name, the sum that needs its width, and whether the greatest of the sum's values does
+pub record NamedPeak : Type 0 where
+  pub name : Option Name
+  pub sum : HeldSum
+  pub high : Bool
+
+abbrev pub peak_at : Telling → Name → ℕ → Option HeldSum → List NamedPeak
+peak_at range name bits None = []
+peak_at range name bits (Some s) = record { name = Some name; sum = s; high = needs_high (range s.form s.class) bits } ∷ []
+
+-- the peak of a group's register: none where one bit is wide enough
+abbrev pub peak_of : Telling → ℕ → StageRegister → List NamedPeak
+peak_of range group r =
+    let bits = bits_of range r.sums in if nat_eq bits 1 then [] else peak_at range (name_of group r.kind r.number) bits (needing range bits r.sums)
+
+abbrev pub peaks_of : Telling → ℕ → List StageRegister → List NamedPeak
+peaks_of range group [] = []
+peaks_of range group (r ∷ rs) = peak_of range group r ++ peaks_of range group rs

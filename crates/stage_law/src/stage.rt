@@ -40,8 +40,8 @@ pub struct Cost {
     pub tables: u64,
 }
 
-/// What needs a register's width: `lag` ticks after value k of the stream, k of the class, it holds the sum there, and the
-/// greatest of these, or else the least, does not fit one bit less.
+/// What needs a register's width: `lag` ticks after value k of the stream, k of the class, it holds the sum there. Where `high`,
+/// the greatest of these does not fit one bit less, else the least does not.
 #[derive(Drop)]
 pub struct Peak {
     pub register: Node,

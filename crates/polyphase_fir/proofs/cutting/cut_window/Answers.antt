@@ -1,6 +1,6 @@
 use Rattle.std.proofs.Common.{List, ℤ, subst}
 use Rattle.stage_law.specs.Range.{IsRange}
-use Rattle.polyphase_fir.specs.Held.{every}
+use Rattle.polyphase_fir.specs.Listed.{every}
 use Rattle.net_graph.proofs.NetLemmas.{Extends-trans}
 use Rattle.polyphase_fir.proofs.CuttingLemmas.{AddsWindow-cut}
 use Rattle.polyphase_fir.proofs.cutting.cut_window.Goals as goal

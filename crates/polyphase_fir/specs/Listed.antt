@@ -1,0 +1,55 @@
+-- The sums that the registers of a filter hold, as a list.
+use Rattle.std.specs.Prelude.{ℕ, zero, suc, ◌+◌, List, [], ◌∷◌, ◌++◌, length, replicate, ℤ, pos}
+use Rattle.net_graph.specs.declared.name.NameKind.{NameKind}
+use Rattle.signed_digit.specs.declared.term_list.Term.{Term}
+use Rattle.pipeline_balance.specs.Tree.{level_count}
+use Rattle.stage_law.specs.Registers.{HeldSum, StageRegister}
+use Rattle.stage_law.specs.declared.ranges.Class.{Class}
+use Rattle.polyphase_fir.specs.Placed.{placed_terms, term_segment}
+use Rattle.polyphase_fir.specs.Form.{form_of}
+
+-- every index
+abbrev pub every : Class
+every = record { modulus = 1; residue = 0 }
+
+-- ---- the window
+
+-- the weights of the value that came so many values before
+abbrev pub unit_form : ℕ → List ℤ
+unit_form age = replicate age (pos 0) ++ pos 1 ∷ []
+
+abbrev pub window_sum : ℕ → HeldSum
+window_sum age = record { form = unit_form age; class = every; lag = 1 }
+
+-- newest first
+abbrev pub window_sums : ℕ → List HeldSum
+window_sums zero = []
+window_sums (suc age) = window_sums age ++ window_sum age ∷ []
+
+-- ---- the trees
+
+-- the sum of the register number j of a level: over the terms under it, one tick later for each level
+abbrev pub tree_sum : List Term → ℕ → ℕ → HeldSum
+tree_sum terms level j = record { form = form_of (term_segment (suc level) j terms); class = every; lag = level + 2 }
+
+-- of the first registers of a level
+abbrev pub level_sums : List Term → ℕ → ℕ → List HeldSum
+level_sums terms level zero = []
+level_sums terms level (suc j) = level_sums terms level j ++ tree_sum terms level j ∷ []
+
+-- level by level, each from the left
+abbrev pub tree_sums : List Term → ℕ → List HeldSum
+tree_sums terms zero = []
+tree_sums terms (suc level) = tree_sums terms level ++ level_sums terms level (level_count (length terms) (suc level))
+
+-- of the trees of the phases below r
+abbrev pub phase_sums : ℕ → List ℤ → ℕ → ℕ → List HeldSum
+phase_sums up taps levels zero = []
+phase_sums up taps levels (suc r) = phase_sums up taps levels r ++ tree_sums (placed_terms up r taps) levels
+
+-- ---- registers
+
+-- registers of one kind with one sum each, numbered on
+abbrev pub numbered : NameKind → ℕ → List HeldSum → List StageRegister
+numbered kind number [] = []
+numbered kind number (s ∷ sums) = record { kind = kind; number = number; sums = s ∷ [] } ∷ numbered kind (suc number) sums
