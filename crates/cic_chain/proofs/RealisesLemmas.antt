@@ -1,5 +1,5 @@
 -- Cascades realise their elements.
-use Rattle.std.proofs.Common.{◌≡◌, ℕ, ◌+◌, ◌-◌, ◌*◌, ◌/◌, ◌%◌, ◌^◌, ◌<◌, ◌≤◌, List, length, refl, sym, ◌∙◌, ap, arith, inl, inr, subst, ℤ, pos, negsuc, ◌+ℤ◌, ◌*ℤ◌, ◌≤ℤ◌}
+use Rattle.std.proofs.Common.{◌≡◌, ℕ, ◌+◌, ◌-◌, ◌*◌, ◌/◌, ◌%◌, ◌^◌, ◌<◌, ◌≤◌, List, length, refl, sym, ◌∙◌, ap, arith, inl, inr, subst, false, ℤ, pos, negsuc, ◌+ℤ◌, ◌*ℤ◌, ◌≤ℤ◌}
 use Rattle.std.proofs.Math.Path.{fun_ext}
 use Rattle.std.proofs.lemmas.Int.{ints}
 use Rattle.std.proofs.Math.Nat.{mul-mod_left, mul-le-mul_left, mul-div_cancel}
@@ -22,6 +22,7 @@ use Rattle.stage_law.specs.Range.{IsRange}
 use Rattle.stage_law.specs.Realises.{Realises, CarriesThrough, IsOwnName}
 use Rattle.stage_law.specs.Streams.{Streams, AreWithin, AreCausal, HasRoom, magnitudes}
 use Rattle.stage_law.specs.declared.ranges.Range.{Range}
+use Rattle.stage_law.specs.Kinds.{is_linear}
 use Rattle.stage_law.specs.declared.stage.Emitted.{Emitted}
 use Rattle.cic_chain.specs.Cascade.{whole, decimator, interpolator}
 use Rattle.cic_chain.specs.Facts.{cic_down_facts, cic_up_facts}
@@ -49,10 +50,10 @@ own_register group name (inl h) = inl h.0
 own_register group name (inr h) = inr h
 
 -- what a piece of registers says of any stage
-pub Realises-piece : {old new : NetView} {from to : Stream} {width registers adders : ℕ} (streams : Streams) (facts : StageFacts) (emitted : Emitted) → emitted.stream ≡ to → from.node.place < length old.cells
+pub Realises-piece : {old new : NetView} {from to : Stream} {width registers adders : ℕ} (streams : Streams) (facts : StageFacts) (emitted : Emitted) → emitted.stream ≡ to → is_linear facts.kind ≡ false → from.node.place < length old.cells
     → IsPiece old new from.node to.node width registers adders → adders ≡ facts.adders → facts.windows ≡ 0 → facts.tables ≡ 0 → to.period * facts.up ≡ from.period * facts.down → to.offset ≡ from.offset + facts.delay from.period
     → CarriesThrough cut_all streams facts.elements new.cells from to → CarriesThrough cut_control streams facts.elements new.cells from to → Realises facts streams old new from emitted
-Realises-piece {old} {new} {from} {to} streams facts emitted is inside p adders windows tables period offset carries uncut = record {
+Realises-piece {old} {new} {from} {to} streams facts emitted is not_linear inside p adders windows tables period offset carries uncut = record {
   grows = p.grows;
   within = rw is p.within;
   period = rw is period;
@@ -64,6 +65,7 @@ Realises-piece {old} {new} {from} {to} streams facts emitted is inside p adders 
   tables = let n = p.named.tables old.group in omega (arith, n, tables);
   names = record { free = λ name other f. p.names.free name (λ h. other (own_register old.group name h)) f };
   shallow = λ bound none. p.shallow (IsShallow-none old.cells old.group bound none) (IsPlain-untouched old.cells old.group from.node.place none inside);
+  registers = λ linear. absurd (cc);
 }
 
 -- there is room for every sum of the element
@@ -93,7 +95,7 @@ module _ (streams : Streams) (factor stages delay : ℕ) where
       → IsRange streams (moving_sums stages (factor * delay)) (record { modulus = factor; residue = 0 }) range → IsLeastWidth range.lo range.hi width
       → AddsDecimator old new from width factor stages delay to → Realises (cic_down_facts factor stages delay) streams old new from emitted
   Realises-down {old} {new} {from} {to} {width} {range} emitted is causal some inside r w d =
-      Realises-piece streams (cic_down_facts factor stages delay) emitted is inside d.piece (omega arith) refl refl (let p = d.period in omega (arith, p)) d.offset
+      Realises-piece streams (cic_down_facts factor stages delay) emitted is refl inside d.piece (omega arith) refl refl (let p = d.period in omega (arith, p)) d.offset
       (λ inputs values v in_streams run carried n.
       d.decimates cut_all IsCut-all inputs values run (pos n)
       ∙ ap (λ (x : Sequence). decimator (wrap width) factor stages delay x (pos n)) (carried_is streams causal values from v in_streams carried)
@@ -135,7 +137,7 @@ module _ (streams : Streams) (factor stages delay : ℕ) where
       → IsPhaseRange streams (moving_sums stages (factor * delay)) factor factor range → IsLeastWidth range.lo range.hi width
       → AddsInterpolator old new from width factor stages delay to → Realises (cic_up_facts factor stages delay) streams old new from emitted
   Realises-up {old} {new} {from} {to} {width} {range} emitted is causal some factor_some inside r w d =
-      Realises-piece streams (cic_up_facts factor stages delay) emitted is inside d.piece (omega arith) refl refl (let p = d.period in omega (arith, p))
+      Realises-piece streams (cic_up_facts factor stages delay) emitted is refl inside d.piece (omega arith) refl refl (let p = d.period in omega (arith, p))
       (d.offset ∙ ap (λ (q : ℕ). from.offset + (stages + (stages - 1) * q + 1)) (fast_is to.period from.period factor_some d.period))
       (λ inputs values v in_streams run carried n.
       d.interpolates cut_all IsCut-all inputs values run (pos n)

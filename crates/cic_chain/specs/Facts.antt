@@ -16,6 +16,7 @@ cic_down_facts factor stages delay = record {
   windows = 0;
   tables = 0;
   longest = 0;
+  registers = λ period. [];
 }
 
 abbrev pub cic_up_facts : ℕ → ℕ → ℕ → StageFacts
@@ -30,6 +31,7 @@ cic_up_facts factor stages delay = record {
   windows = 0;
   tables = 0;
   longest = 0;
+  registers = λ period. [];
 }
 
 -- the streams of these periods are taken
