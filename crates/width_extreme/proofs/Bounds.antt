@@ -21,7 +21,7 @@ use Rattle.width_extreme.proofs.Ranges.{zero-fits, shortfall, shortfall-enough, 
 abbrev pub AllFit : ℕ → List ℤ → Type 0
 AllFit w cs = (k : ℕ) → FitsWidth w (get_or cs k (pos 0))
 
-history-fits : (w : ℕ) (cs : List ℤ) (newest : ℕ) → AllFit w cs → All (FitsWidth w) (history newest cs)
+pub history-fits : (w : ℕ) (cs : List ℤ) (newest : ℕ) → AllFit w cs → All (FitsWidth w) (history newest cs)
 history-fits w cs newest h k d below =
     subst (FitsWidth w) (sym (get_or-tabulate (suc newest) (λ n. get_or cs (newest - n) (pos 0)) k d (omega (arith, length-tabulate (suc newest) (λ n. get_or cs (newest - n) (pos 0))))))
     (h (newest - k))

@@ -37,13 +37,13 @@ pub record Covers (table : Table) (width : ℕ) (form : List ℤ) (class : Class
   pub high : hi ≡ greatest_to last (λ i. high_at width form (responses_of table) (class.residue + i * class.modulus))
 
 module _ (table : Table) (width : ℕ) (form : List ℤ) (law : IsLawful table) where
-  low-here : (k index : ℕ) (lo : ℤ) → index ≡ k % length (rows_of table)
+  pub low-here : (k index : ℕ) (lo : ℤ) → index ≡ k % length (rows_of table)
       → lo ≡ low_end (through_filter form (responses_of table) (pos index)).weights (least_sample width) (greatest_sample width) → lo ≡ low_at width form (responses_of table) k
   low-here k index lo is e =
       e ∙ ap (λ (n : ℕ). low_end (through_filter form (responses_of table) (pos n)).weights (least_sample width) (greatest_sample width)) is
       ∙ ap (λ (ws : List ℤ). low_end ws (least_sample width) (greatest_sample width)) (same-weights table form k law)
 
-  high-here : (k index : ℕ) (hi : ℤ) → index ≡ k % length (rows_of table)
+  pub high-here : (k index : ℕ) (hi : ℤ) → index ≡ k % length (rows_of table)
       → hi ≡ low_end (through_filter form (responses_of table) (pos index)).weights (greatest_sample width) (least_sample width) → hi ≡ high_at width form (responses_of table) k
   high-here k index hi is e =
       e ∙ ap (λ (n : ℕ). low_end (through_filter form (responses_of table) (pos n)).weights (greatest_sample width) (least_sample width)) is

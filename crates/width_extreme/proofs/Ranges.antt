@@ -19,7 +19,7 @@ use Rattle.impulse_phase.proofs.Ends.{low_end-holds, high_end-holds, high_end-tu
 
 -- ---- the least and the greatest of finitely many
 
-least_to-holds : (n : ℕ) (f : ℕ → ℤ) (i : ℕ) → i ≤ n → least_to n f ≤ℤ f i
+pub least_to-holds : (n : ℕ) (f : ℕ → ℤ) (i : ℕ) → i ≤ n → least_to n f ≤ℤ f i
 least_to-holds zero f zero h = omega (arith, ints)
 least_to-holds zero f (suc i) h = absurd (omega arith)
 least_to-holds (suc n) f i h = by_rest (suc n - i) refl (λ (below : i ≤ n). least_to-holds n f i below)
@@ -28,7 +28,7 @@ least_to-holds (suc n) f i h = by_rest (suc n - i) refl (λ (below : i ≤ n). l
     by_rest zero e rest = let same : i ≡ suc n = omega arith in rw same (omega (arith, ints, int_min_is (f (suc n)) (least_to n f)))
     by_rest (suc d) e rest = omega (arith, ints, int_min_is (f (suc n)) (least_to n f), rest (omega arith))
 
-greatest_to-holds : (n : ℕ) (f : ℕ → ℤ) (i : ℕ) → i ≤ n → f i ≤ℤ greatest_to n f
+pub greatest_to-holds : (n : ℕ) (f : ℕ → ℤ) (i : ℕ) → i ≤ n → f i ≤ℤ greatest_to n f
 greatest_to-holds zero f zero h = omega (arith, ints)
 greatest_to-holds zero f (suc i) h = absurd (omega arith)
 greatest_to-holds (suc n) f i h = by_rest (suc n - i) refl (λ (below : i ≤ n). greatest_to-holds n f i below)
@@ -37,7 +37,7 @@ greatest_to-holds (suc n) f i h = by_rest (suc n - i) refl (λ (below : i ≤ n)
     by_rest zero e rest = let same : i ≡ suc n = omega arith in rw same (omega (arith, ints, int_max_is (f (suc n)) (greatest_to n f)))
     by_rest (suc d) e rest = omega (arith, ints, int_max_is (f (suc n)) (greatest_to n f), rest (omega arith))
 
-least_to-reached : (n : ℕ) (f : ℕ → ℤ) → (i : ℕ) × (i ≤ n) × (f i ≡ least_to n f)
+pub least_to-reached : (n : ℕ) (f : ℕ → ℤ) → (i : ℕ) × (i ≤ n) × (f i ≡ least_to n f)
 least_to-reached zero f = (0, omega arith, refl)
 least_to-reached (suc n) f = by_test (int_lt (least_to n f) (f (suc n))) (least_to-reached n f)
   where
@@ -45,7 +45,7 @@ least_to-reached (suc n) f = by_test (int_lt (least_to n f) (f (suc n))) (least_
     by_test true rest = (rest.0, omega (arith, rest.1), rest.2)
     by_test false rest = (suc n, omega arith, refl)
 
-greatest_to-reached : (n : ℕ) (f : ℕ → ℤ) → (i : ℕ) × (i ≤ n) × (f i ≡ greatest_to n f)
+pub greatest_to-reached : (n : ℕ) (f : ℕ → ℤ) → (i : ℕ) × (i ≤ n) × (f i ≡ greatest_to n f)
 greatest_to-reached zero f = (0, omega arith, refl)
 greatest_to-reached (suc n) f = by_test (int_lt (greatest_to n f) (f (suc n))) (greatest_to-reached n f)
   where

@@ -1,3 +1,4 @@
 pub mod Chain
+pub mod Furthest
 pub mod Prefix
 pub mod Walk

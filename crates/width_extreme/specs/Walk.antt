@@ -1,5 +1,5 @@
 -- A sum over the rows of a table of responses, as they are read one after another.
-use Rattle.std.specs.Prelude.{◌≡◌, ℕ, ◌+◌, ◌*◌, ◌^◌, ◌<◌, ◌≤◌, List, ◌++◌, length, get_or, replicate, ℤ, pos, negsuc, unsigned_abs, ◌+ℤ◌, ◌-ℤ◌, ◌≤ℤ◌, ◌<ℤ◌}
+use Rattle.std.specs.Prelude.{◌≡◌, ℕ, ◌+◌, ◌*◌, ◌/◌, ◌^◌, ◌<◌, ◌≤◌, List, ◌++◌, length, get_or, replicate, ℤ, pos, negsuc, unsigned_abs, ◌+ℤ◌, ◌-ℤ◌, ◌≤ℤ◌, ◌<ℤ◌}
 use Rattle.mr_values.specs.Sequence.{Sequence}
 use Rattle.mr_values.specs.Value.{size}
 use Rattle.stage_law.specs.Streams.{AreWithin, magnitudes}
@@ -61,3 +61,7 @@ pub record HasFormRoom (table : Table) (width : ℕ) (form : List ℤ) : Type 0 
 pub record HasTermRoom (sum term : ℤ) : Type 0 where
   pub term_small : unsigned_abs term ≤ 2 ^ 126
   pub sum_small : unsigned_abs (sum +ℤ term) ≤ 2 ^ 126
+
+-- from so many indices on, every sample in a sum at an index has an index of 0 or more
+abbrev pub needed_for : Table → ℕ → ℕ → ℕ → ℕ
+needed_for table longest zeros factors = zeros + factors + length (rows_of table) * (longest / table.step + 1)

@@ -66,9 +66,9 @@ impl PrefixRanges {
         })
     }
 
-    // The ends of the sum over the samples, at an index of the first round, of values from the index on backwards: `zeros` of them
-    // have no factor, and the others these.
-    fn ends(&self, index: u64, zeros: u64, factors: &[i128]) -> Range
+    /// The ends of the sum over the samples, at an index of the first round, of values from the index on backwards: `zeros` of them
+    /// have no factor, and the others these.
+    pub(crate) fn ends(&self, index: u64, zeros: u64, factors: &[i128]) -> Range
         requires index { index < length (rows_of self.now.table) }
         requires room { HasFormRoom self.now.table self.now.width (replicate zeros (pos 0) ++ factors.now) }
         ensures low { result.lo ≡ low_end (weights_at self.now.table zeros factors.now index) (least_sample self.now.width) (greatest_sample self.now.width) }

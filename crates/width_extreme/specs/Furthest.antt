@@ -1,0 +1,47 @@
+-- Samples that make a sum reach an end of its range.
+use Rattle.std.specs.Prelude.{◌≡◌, ℕ, ◌+◌, ◌*◌, ◌^◌, ◌<◌, ◌≤◌, List, length, ℤ, ◌≤ℤ◌, Bool, true, false}
+use Rattle.stage_law.specs.Least.{end_of}
+use Rattle.stage_law.specs.declared.ranges.Class.{Class}
+use Rattle.stage_law.specs.declared.ranges.WeightedSum.{WeightedSum}
+use Rattle.stage_law.specs.Weights.{weights_of}
+use Rattle.impulse_phase.specs.declared.table.Response.{Response as Table}
+use Rattle.impulse_phase.specs.Response.{Responses}
+use Rattle.impulse_phase.specs.Reading.{rows_of, responses_of}
+use Rattle.width_extreme.specs.Prefix.{low_at, high_at, range_of, finer_classes, IsExtreme}
+use Rattle.width_extreme.specs.Walk.{transform_of, needed_for}
+
+-- the least and the greatest sum at an index
+abbrev pub end_at : Bool → ℕ → List ℤ → Responses → ℕ → ℤ
+end_at true width form f k = high_at width form f k
+end_at false width form f k = low_at width form f k
+
+-- the second number is at least as far out as the first
+abbrev pub IsFurther : Bool → ℤ → ℤ → Type 0
+IsFurther true a b = a ≤ℤ b
+IsFurther false a b = b ≤ℤ a
+
+-- the indices of a round of all finer classes
+abbrev pub whole_of : Table → Class → ℕ
+whole_of table class = finer_classes (length (rows_of table)) class.modulus * class.modulus
+
+-- an index that has its whole history is a number of 64 bits
+pub record IsNear (table : Table) (longest : ℕ) (sum : WeightedSum) (class : Class) : Type 0 where
+  pub near : needed_for table longest sum.behind (length sum.weights.items) + whole_of table class < 2 ^ 64
+
+-- so many whole rounds after the first index, at least as far as is needed, and soon
+pub record IsPast (first whole needed index : ℕ) : Type 0 where
+  pub rounds : ℕ
+  pub is : index ≡ first + rounds * whole
+  pub enough : needed ≤ index
+  pub soon : index ≤ needed + whole
+
+-- The end of the range that is meant is reached at the index, which is of the class, and soon.
+pub record IsEndReached (table : Table) (width longest : ℕ) (sum : WeightedSum) (class : Class) (high : Bool) (xs : List ℤ) (index : ℕ) (value : ℤ) : Type 0 where
+  pub reaches : IsExtreme (transform_of table) width (weights_of sum) class value xs index
+  pub end : value ≡ end_of high (range_of width (weights_of sum) (responses_of table) class (finer_classes (length (rows_of table)) class.modulus))
+  pub soon : index ≤ needed_for table longest sum.behind (length sum.weights.items) + whole_of table class
+
+-- some samples do that
+pub record IsEndReachable (table : Table) (width longest : ℕ) (sum : WeightedSum) (class : Class) (high : Bool) (index : ℕ) (value : ℤ) : Type 0 where
+  pub xs : List ℤ
+  pub reached : IsEndReached table width longest sum class high xs index value

@@ -1,0 +1,161 @@
+//! Where a sum reaches an end of its range, and the samples that make it.
+
+ghost use Rattle.std.specs.Prelude.{◌≡◌, ℕ, ◌+◌, ◌*◌, ◌<◌, ◌≤◌, ◌^◌, ◌⊎◌, length};
+ghost use Rattle.width_extreme.specs.Furthest.{IsFurther, IsPast};
+
+use crate::prefix::PrefixRanges;
+use impulse_phase::common;
+use stage_law::{Class, WeightedSum};
+
+/// The index at which some samples make a sum reach an end of its range, and that end.
+#[derive(Clone, Copy, Debug, PartialEq, Eq)]
+pub struct Reached {
+    pub index: u64,
+    pub value: i128,
+}
+
+// An end of a sum in a finer class.
+#[derive(Clone, Copy)]
+struct FinerEnd {
+    finer: u64,
+    value: i128,
+}
+
+impl PrefixRanges {
+    ghost use Rattle.stage_law.specs.Weights.{weights_of};
+    ghost use Rattle.impulse_phase.specs.Reading.{rows_of, responses_of};
+    ghost use Rattle.width_extreme.specs.Prefix.{finer_classes};
+    ghost use Rattle.width_extreme.specs.Walk.{needed_for, HasFormRoom};
+    ghost use Rattle.width_extreme.specs.Furthest.{end_at, whole_of, IsNear, IsEndReachable};
+
+    /// The greatest value of the sum over the streams and the indices of the class, or else the least, and an index
+    /// of the class at which some samples of the width make it. It takes no memory.
+    pub fn extreme_value(&self, sum: &WeightedSum, class: Class, high: bool) -> Reached
+        requires class { class.residue < class.modulus }
+        requires room { HasFormRoom self.now.table self.now.width (weights_of sum.now) }
+        requires near { IsNear self.now.table self.now.longest sum.now class }
+        ensures { IsEndReachable self.now.table self.now.width self.now.longest sum.now class high result.index result.value }
+    {
+        let furthest = self.furthest(sum, class, high);
+        Reached {
+            index: self.index_past(sum, class, furthest.finer),
+            value: furthest.value,
+        }
+    }
+
+    // The finer class with the greatest end, or else the least.
+    fn furthest(&self, sum: &WeightedSum, class: Class, high: bool) -> FinerEnd
+        requires class { class.residue < class.modulus }
+        requires room { HasFormRoom self.now.table self.now.width (weights_of sum.now) }
+        ensures finer { result.finer < finer_classes (length (rows_of self.now.table)) class.modulus }
+        ensures value { result.value ≡ end_at high self.now.width (weights_of sum.now) (responses_of self.now.table) (class.residue + result.finer * class.modulus) }
+        ensures furthest { (i : ℕ) → i < finer_classes (length (rows_of self.now.table)) class.modulus
+            → IsFurther high (end_at high self.now.width (weights_of sum.now) (responses_of self.now.table) (class.residue + i * class.modulus)) result.value }
+    {
+        let mut best = self.finer_end(sum, class, 0, high);
+        for finer in 1..self.finer_count(class) {
+            let next = self.finer_end(sum, class, finer, high);
+            best = further(best, next, high);
+        }
+        best
+    }
+
+    // Into how many finer classes the class falls.
+    fn finer_count(&self, class: Class) -> u64
+        requires { class.residue < class.modulus }
+        ensures count { result ≡ finer_classes (length (rows_of self.now.table)) class.modulus }
+        ensures some { 0 < result }
+        ensures few { result ≤ 2 ^ 32 }
+    {
+        let classes = self.table.classes();
+        classes / common(classes, u64::from(class.modulus))
+    }
+
+    // The end of the sum in a finer class.
+    fn finer_end(&self, sum: &WeightedSum, class: Class, finer: u64, high: bool) -> FinerEnd
+        requires class { class.residue < class.modulus }
+        requires few { finer < 2 ^ 32 }
+        requires room { HasFormRoom self.now.table self.now.width (weights_of sum.now) }
+        ensures finer { result.finer ≡ finer }
+        ensures value { result.value ≡ end_at high self.now.width (weights_of sum.now) (responses_of self.now.table) (class.residue + finer * class.modulus) }
+    {
+        let index = first_of(class, finer) % self.table.classes();
+        let range = self.ends(index, sum.behind, &sum.weights);
+        if high {
+            FinerEnd {
+                finer,
+                value: range.hi,
+            }
+        } else {
+            FinerEnd {
+                finer,
+                value: range.lo,
+            }
+        }
+    }
+
+    // The first index of a finer class at which every sample in the sum has an index of 0 or more.
+    fn index_past(&self, sum: &WeightedSum, class: Class, finer: u64) -> u64
+        requires class { class.residue < class.modulus }
+        requires finer { finer < finer_classes (length (rows_of self.now.table)) class.modulus }
+        requires near { IsNear self.now.table self.now.longest sum.now class }
+        ensures { IsPast (class.residue + finer * class.modulus) (whole_of self.now.table class)
+            (needed_for self.now.table self.now.longest sum.now.behind (length sum.now.weights.items)) result }
+    {
+        let first = first_of(class, finer);
+        past(first, self.whole(sum, class), self.needed(sum, class))
+    }
+
+    // The indices of a round of all finer classes.
+    fn whole(&self, sum: &WeightedSum, class: Class) -> u64
+        requires class { class.residue < class.modulus }
+        requires near { IsNear self.now.table self.now.longest sum.now class }
+        ensures { result ≡ whole_of self.now.table class }
+    {
+        self.finer_count(class) * u64::from(class.modulus)
+    }
+
+    // From this index on every sample in the sum has an index of 0 or more.
+    fn needed(&self, sum: &WeightedSum, class: Class) -> u64
+        requires { IsNear self.now.table self.now.longest sum.now class }
+        ensures { result ≡ needed_for self.now.table self.now.longest sum.now.behind (length sum.now.weights.items) }
+    {
+        let rounds = self.longest / self.table.step() + 1;
+        sum.behind + sum.weights.len() as u64 + self.table.classes() * rounds
+    }
+}
+
+// The first index of a finer class.
+fn first_of(class: Class, finer: u64) -> u64
+    requires class { class.residue < class.modulus }
+    requires few { finer < 2 ^ 32 }
+    ensures { result ≡ class.residue + finer * class.modulus }
+{
+    u64::from(class.residue) + finer * u64::from(class.modulus)
+}
+
+// The end that is further out.
+fn further(best: FinerEnd, next: FinerEnd, high: bool) -> FinerEnd
+    ensures chosen { ((result.finer ≡ best.finer) × (result.value ≡ best.value)) ⊎ ((result.finer ≡ next.finer) × (result.value ≡ next.value)) }
+    ensures best { IsFurther high best.value result.value }
+    ensures next { IsFurther high next.value result.value }
+{
+    if high {
+        if best.value < next.value { next } else { best }
+    } else {
+        if next.value < best.value { next } else { best }
+    }
+}
+
+// The first index that is enough, so many whole rounds after the first one.
+fn past(first: u64, whole: u64, needed: u64) -> u64
+    requires first { first < whole }
+    requires room { needed + whole < 2 ^ 64 }
+    ensures { IsPast first whole needed result }
+{
+    if needed <= first {
+        first
+    } else {
+        first + (needed - first + (whole - 1)) / whole * whole
+    }
+}
