@@ -4,7 +4,6 @@ use Rattle.std.proofs.lemmas.Int.{ints}
 use Rattle.std.proofs.lemmas.List.{length-replicate}
 use Rattle.mr_values.specs.Timing.{low_end}
 use Rattle.mr_values.specs.Width.{FitsWidth}
-use Rattle.stage_law.specs.Least.{end_of}
 use Rattle.stage_law.specs.Range.{InClass}
 use Rattle.stage_law.specs.Weights.{weights_of}
 use Rattle.stage_law.specs.declared.ranges.Class.{Class}
@@ -15,7 +14,7 @@ use Rattle.impulse_phase.specs.Reading.{rows_of, responses_of}
 use Rattle.impulse_phase.proofs.Ends.{history, high_end-turned}
 use Rattle.width_extreme.specs.Prefix.{least_sample, greatest_sample, low_at, high_at, range_of, finer_classes}
 use Rattle.width_extreme.specs.Walk.{IsLawful, IsLongest, needed_for}
-use Rattle.width_extreme.specs.Furthest.{end_at, IsFurther, whole_of, IsPast, IsEndReachable}
+use Rattle.width_extreme.specs.Furthest.{end_of, end_at, IsFurther, whole_of, IsPast, IsEndReachable}
 use Rattle.width_extreme.proofs.Histories.{all_chosen, Chosen, chosen-reach, same-later}
 use Rattle.width_extreme.proofs.Ranges.{least-fits, greatest-fits, finer-in_class, least_to-holds, least_to-reached, greatest_to-holds, greatest_to-reached}
 

@@ -1,7 +1,7 @@
 -- Samples that make a sum reach an end of its range.
 use Rattle.std.specs.Prelude.{◌≡◌, ℕ, ◌+◌, ◌*◌, ◌^◌, ◌<◌, ◌≤◌, List, length, ℤ, ◌≤ℤ◌, Bool, true, false}
-use Rattle.stage_law.specs.Least.{end_of}
 use Rattle.stage_law.specs.declared.ranges.Class.{Class}
+use Rattle.stage_law.specs.declared.ranges.Range.{Range}
 use Rattle.stage_law.specs.declared.ranges.WeightedSum.{WeightedSum}
 use Rattle.stage_law.specs.Weights.{weights_of}
 use Rattle.impulse_phase.specs.declared.table.Response.{Response as Table}
@@ -14,6 +14,11 @@ use Rattle.width_extreme.specs.Walk.{transform_of, needed_for}
 abbrev pub end_at : Bool → ℕ → List ℤ → Responses → ℕ → ℤ
 end_at true width form f k = high_at width form f k
 end_at false width form f k = low_at width form f k
+
+-- the end of a range that is meant
+abbrev pub end_of : Bool → Range → ℤ
+end_of true range = range.hi
+end_of false range = range.lo
 
 -- the second number is at least as far out as the first
 abbrev pub IsFurther : Bool → ℤ → ℤ → Type 0
