@@ -11,11 +11,11 @@ use Rattle.stage_law.specs.declared.ranges.WeightedSum.{WeightedSum}
 use Rattle.impulse_phase.specs.declared.table.Response.{Response as Table}
 use Rattle.impulse_phase.specs.Response.{through_filter}
 use Rattle.impulse_phase.specs.Reading.{rows_of, responses_of}
-use Rattle.impulse_phase.proofs.Ends.{history, high_end-turned}
+use Rattle.impulse_phase.proofs.Ends.{high_end-turned}
 use Rattle.width_extreme.specs.Prefix.{least_sample, greatest_sample, low_at, high_at, range_of, finer_classes}
 use Rattle.width_extreme.specs.Walk.{IsLawful, IsLongest, needed_for}
-use Rattle.width_extreme.specs.Furthest.{end_of, end_at, IsFurther, whole_of, IsPast, IsEndReachable}
-use Rattle.width_extreme.proofs.Histories.{all_chosen, Chosen, chosen-reach, same-later}
+use Rattle.width_extreme.specs.Furthest.{end_of, end_at, IsFurther, near_end, far_end, samples_at, whole_of, IsPast, IsEndReached}
+use Rattle.width_extreme.proofs.Histories.{Chosen, chosen-reach, same-later, history-is}
 use Rattle.width_extreme.proofs.Ranges.{least-fits, greatest-fits, finer-in_class, least_to-holds, least_to-reached, greatest_to-holds, greatest_to-reached}
 
 -- ---- the end that is furthest out, of those so far
@@ -70,15 +70,6 @@ end-is false table width form class count best value some h =
     let least = least_to-reached (count - 1) lows in
     omega (arith, ints, h.is, least_to-holds (count - 1) lows best (omega (arith, h.below)), h.each least.0 (omega (arith, least.1)), least.2)
 
--- the ends of a sum, in the order in which its weights ask for them
-abbrev pub near_end : Bool → ℕ → ℤ
-near_end true w = greatest_sample w
-near_end false w = least_sample w
-
-abbrev pub far_end : Bool → ℕ → ℤ
-far_end true w = least_sample w
-far_end false w = greatest_sample w
-
 near-fits : (high : Bool) (w : ℕ) → FitsWidth w (near_end high w)
 near-fits true w = greatest-fits w
 near-fits false w = least-fits w
@@ -95,19 +86,17 @@ end_at-is false width form table k = refl
 pub far-end : (table : Table) (width longest : ℕ) (sum : WeightedSum) (class : Class) (high : Bool) (finer index : ℕ) (value : ℤ) → IsLawful table → IsLongest table longest → class.residue < class.modulus
     → IsFurthest high (λ i. end_at high width (weights_of sum) (responses_of table) (class.residue + i * class.modulus)) (finer_classes (length (rows_of table)) class.modulus) finer value
     → IsPast (class.residue + finer * class.modulus) (whole_of table class) (needed_for table longest sum.behind (length sum.weights.items)) index
-    → IsEndReachable table width longest sum class high index value
-far-end table width longest sum class high finer index value law long below furthest past = record {
-  xs = history reach.newest (all_chosen (near_end high width) (far_end high width) (through_filter form (responses_of table) (pos index)).weights);
-  reached = record {
-    reaches = record {
-      fits = reach.fits;
-      in_class = subst (InClass class) (sym past.is) (finer-in_class class (finer_classes (length (rows_of table)) class.modulus) finer past.rounds below);
-      is = reach.is ∙ ap (λ (ws : List ℤ). low_end ws (near_end high width) (far_end high width)) same ∙ end_at-is high width form table first ∙ sym furthest.is;
-    };
-    end = end-is high table width form class (finer_classes (length (rows_of table)) class.modulus) finer value (omega (arith, furthest.below)) furthest;
-    soon = past.soon;
-  };
-}
+    → IsEndReached table width longest sum class high (samples_at table width (weights_of sum) high index) index value
+far-end table width longest sum class high finer index value law long below furthest past =
+    subst (λ (xs : List ℤ). IsEndReached table width longest sum class high xs index value) (history-is table width reach.newest index form high reach.newest_is) (record {
+      reaches = record {
+        fits = reach.fits;
+        in_class = subst (InClass class) (sym past.is) (finer-in_class class (finer_classes (length (rows_of table)) class.modulus) finer past.rounds below);
+        is = reach.is ∙ ap (λ (ws : List ℤ). low_end ws (near_end high width) (far_end high width)) same ∙ end_at-is high width form table first ∙ sym furthest.is;
+      };
+      end = end-is high table width form class (finer_classes (length (rows_of table)) class.modulus) finer value (omega (arith, furthest.below)) furthest;
+      soon = past.soon;
+    })
   where
     form : List ℤ
     form = weights_of sum

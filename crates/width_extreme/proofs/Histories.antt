@@ -1,7 +1,8 @@
 -- Samples that reach an end of a sum at an index that has its whole history.
-use Rattle.std.proofs.Common.{◌≡◌, ◌∙◌, ℕ, zero, suc, ◌+◌, ◌-◌, ◌*◌, ◌/◌, ◌<◌, ◌≤◌, max, refl, sym, ap, arith, subst, List, [], ◌∷◌, length, get_or, All, ℤ, pos, negsuc, ◌+ℤ◌, ◌-ℤ◌, ◌*ℤ◌, ◌≤ℤ◌}
+use Rattle.std.proofs.Common.{◌≡◌, ◌∙◌, ℕ, zero, suc, ◌+◌, ◌-◌, ◌*◌, ◌/◌, ◌<◌, ◌≤◌, max, refl, sym, ap, arith, subst, List, [], ◌∷◌, ◌++◌, length, get_or, reverse, All, ℤ, pos, negsuc, ◌+ℤ◌, ◌-ℤ◌, ◌*ℤ◌, ◌≤ℤ◌, Bool}
 use Rattle.std.proofs.lemmas.Int.{ints}
 use Rattle.std.proofs.lemmas.Nat.{div-add-mod', mod_below}
+use Rattle.std.proofs.lemmas.List.{reverse-append}
 use Rattle.mr_values.specs.Width.{FitsWidth}
 use Rattle.mr_values.specs.Sequence.{Sequence, samples, filter, weighted_sum}
 use Rattle.mr_values.specs.Timing.{low_end}
@@ -11,12 +12,13 @@ use Rattle.stage_law.specs.declared.ranges.Class.{Class}
 use Rattle.impulse_phase.specs.declared.table.Response.{Response as Table}
 use Rattle.impulse_phase.specs.Response.{Response, Responses, added, scaled, behind, combined, through_filter, common, HasResponses}
 use Rattle.impulse_phase.specs.Reading.{rows_of, responses_of}
-use Rattle.impulse_phase.proofs.Ends.{history, samples-history}
+use Rattle.impulse_phase.proofs.Ends.{tabulate, history, samples-history}
 use Rattle.impulse_phase.proofs.Prefix.{common-turns}
 use Rattle.impulse_phase.proofs.Steps.{filter-keeps, recurs-times}
 use Rattle.impulse_phase.proofs.Tables.{told_here}
 use Rattle.width_extreme.specs.Prefix.{finer_classes}
 use Rattle.width_extreme.specs.Walk.{transform_of, IsLawful, IsLongest, delay_at}
+use Rattle.width_extreme.specs.Furthest.{chosen_for, near_end, far_end, listed, samples_at}
 use Rattle.width_extreme.proofs.Bounds.{AllFit, history-fits}
 use Rattle.width_extreme.proofs.Lawful.{table-law, rows-some}
 use Rattle.width_extreme.proofs.Ranges.{later-at, zero-fits}
@@ -115,12 +117,6 @@ has-history table longest index last form law long few far = by_newest (f (pos i
 
 -- ---- the samples
 
--- one end for each weight, 0 for a weight of 0
-abbrev pub chosen_for : ℤ → ℤ → ℤ → ℤ
-chosen_for low high (pos zero) = pos 0
-chosen_for low high (pos (suc c)) = low
-chosen_for low high (negsuc c) = high
-
 abbrev pub all_chosen : ℤ → ℤ → List ℤ → List ℤ
 all_chosen low high [] = []
 all_chosen low high (c ∷ cs) = chosen_for low high c ∷ all_chosen low high cs
@@ -177,3 +173,40 @@ same-later table form class first rounds law =
     let form_law : HasResponses transform (through_filter form (responses_of table)) classes table.step = filter-keeps form (transform_of table) (responses_of table) classes table.step (table-law table law) in
     ap (λ (r : Response). r.weights) (later-at transform (through_filter form (responses_of table)) classes table.step form_law (finer_classes classes class.modulus * class.modulus)
     (class.modulus / common classes class.modulus) first rounds (common-turns classes class.modulus))
+
+-- ---- the samples in their order
+
+get_or-chosen : (a b : ℤ) (cs : List ℤ) (k : ℕ) → get_or (all_chosen a b cs) k (pos 0) ≡ chosen_for a b (get_or cs k (pos 0))
+get_or-chosen a b [] k = refl
+get_or-chosen a b (c ∷ cs) zero = refl
+get_or-chosen a b (c ∷ cs) (suc k) = get_or-chosen a b cs k
+
+listed-is : (n : ℕ) (f g : ℕ → ℤ) → ((k : ℕ) → f k ≡ g k) → listed n f ≡ tabulate n g
+listed-is zero f g h = refl
+listed-is (suc n) f g h = ap (λ (z : ℤ). z ∷ listed n (λ k. f (suc k))) (h zero) ∙ ap (λ (zs : List ℤ). g zero ∷ zs) (listed-is n (λ k. f (suc k)) (λ k. g (suc k)) (λ k. h (suc k)))
+
+pub listed-same : (n : ℕ) (f g : ℕ → ℤ) → ((k : ℕ) → k < n → f k ≡ g k) → listed n f ≡ listed n g
+listed-same zero f g h = refl
+listed-same (suc n) f g h =
+    ap (λ (z : ℤ). z ∷ listed n (λ k. f (suc k))) (h zero (omega arith)) ∙ ap (λ (zs : List ℤ). g zero ∷ zs) (listed-same n (λ k. f (suc k)) (λ k. g (suc k)) (λ k below. h (suc k) (omega arith)))
+
+pub history-is : (table : Table) (w newest index : ℕ) (form : List ℤ) (high : Bool) → (responses_of table (pos index)).newest ≡ pos newest
+    → history newest (all_chosen (near_end high w) (far_end high w) (through_filter form (responses_of table) (pos index)).weights) ≡ samples_at table w form high index
+history-is table w newest index form high is =
+    let weights = (through_filter form (responses_of table) (pos index)).weights in
+    let count : size (responses_of table (pos index)).newest ≡ newest = ap size is in
+    sym (listed-is (suc newest) (λ n. chosen_for (near_end high w) (far_end high w) (get_or weights (newest - n) (pos 0))) (λ n. get_or (all_chosen (near_end high w) (far_end high w) weights) (newest - n) (pos 0))
+    (λ n. sym (get_or-chosen (near_end high w) (far_end high w) weights (newest - n))))
+    ∙ ap (λ (m : ℕ). listed (suc m) (λ n. chosen_for (near_end high w) (far_end high w) (get_or weights (m - n) (pos 0)))) (sym count)
+
+pub listed-push : (n : ℕ) (f : ℕ → ℤ) → listed (suc n) f ≡ listed n f ++ f n ∷ []
+listed-push zero f = refl
+listed-push (suc n) f = ap (λ (zs : List ℤ). f zero ∷ zs) (listed-push n (λ k. f (suc k)))
+
+pub listed-reverse : (n : ℕ) (f : ℕ → ℤ) → reverse (listed n f) ≡ listed n (λ k. f (n - 1 - k))
+listed-reverse zero f = refl
+listed-reverse (suc n) f =
+    let last : f n ≡ f (suc n - 1 - 0) = ap f (omega arith) in
+    ap reverse (listed-push n f) ∙ reverse-append (listed n f) (f n ∷ [])
+    ∙ ap (λ (zs : List ℤ). f n ∷ zs) (listed-reverse n f ∙ listed-same n (λ k. f (n - 1 - k)) (λ k. f (suc n - 1 - suc k)) (λ k below. ap f (omega arith)))
+    ∙ ap (λ (z : ℤ). z ∷ listed n (λ k. f (suc n - 1 - suc k))) last

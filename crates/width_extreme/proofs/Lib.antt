@@ -9,6 +9,7 @@ pub mod Lawful
 pub mod Modest
 pub mod Ranges
 pub mod Rows
+pub mod Samples
 pub mod Streams
 pub mod Walk
 pub mod Walked

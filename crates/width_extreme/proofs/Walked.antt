@@ -74,7 +74,7 @@ module _ (table : Table) (longest index zeros : ℕ) (factors : List ℤ) (law :
       (λ k below. too_late table longest index next (zeros + k) (longest-everywhere table longest (rows-some table) long) (omega (arith, spent k (omega arith))))
 
   -- the weight at the next place, from the entries that reach it
-  weight-here : (start place next : ℕ) → ((k : ℕ) → k < start → delay_at table index (zeros + k) + longest ≤ place) → place ≤ next
+  pub weight-here : (start place next : ℕ) → ((k : ℕ) → k < start → delay_at table index (zeros + k) + longest ≤ place) → place ≤ next
       → weighted_sum (drop start factors) (λ k. weight_back table index next (zeros + start + k)) ≡ get_or (weights_at table zeros factors index) next (pos 0)
   weight-here start place next spent from =
       weighted_sum-same (drop start factors) (λ k. weight_back table index next (zeros + start + k)) (λ k. weight_back table index next (zeros + (start + k))) (λ k. ap (weight_back table index next) (omega arith))

@@ -1,13 +1,14 @@
 -- Samples that make a sum reach an end of its range.
-use Rattle.std.specs.Prelude.{◌≡◌, ℕ, ◌+◌, ◌*◌, ◌^◌, ◌<◌, ◌≤◌, List, length, ℤ, ◌≤ℤ◌, Bool, true, false}
+use Rattle.std.specs.Prelude.{◌≡◌, ℕ, zero, suc, ◌+◌, ◌-◌, ◌*◌, ◌^◌, ◌<◌, ◌≤◌, List, [], ◌∷◌, length, get_or, ℤ, pos, negsuc, ◌≤ℤ◌, Bool, true, false}
+use Rattle.mr_values.specs.Value.{size}
 use Rattle.stage_law.specs.declared.ranges.Class.{Class}
 use Rattle.stage_law.specs.declared.ranges.Range.{Range}
 use Rattle.stage_law.specs.declared.ranges.WeightedSum.{WeightedSum}
 use Rattle.stage_law.specs.Weights.{weights_of}
 use Rattle.impulse_phase.specs.declared.table.Response.{Response as Table}
-use Rattle.impulse_phase.specs.Response.{Responses}
+use Rattle.impulse_phase.specs.Response.{Responses, through_filter}
 use Rattle.impulse_phase.specs.Reading.{rows_of, responses_of}
-use Rattle.width_extreme.specs.Prefix.{low_at, high_at, range_of, finer_classes, IsExtreme}
+use Rattle.width_extreme.specs.Prefix.{least_sample, greatest_sample, low_at, high_at, range_of, finer_classes, IsExtreme}
 use Rattle.width_extreme.specs.Walk.{transform_of, needed_for}
 
 -- the least and the greatest sum at an index
@@ -24,6 +25,35 @@ end_of false range = range.lo
 abbrev pub IsFurther : Bool → ℤ → ℤ → Type 0
 IsFurther true a b = a ≤ℤ b
 IsFurther false a b = b ≤ℤ a
+
+-- ---- the samples that reach an end
+
+-- the first of two samples for a weight above 0, the second for one below 0, and 0 for 0
+abbrev pub chosen_for : ℤ → ℤ → ℤ → ℤ
+chosen_for a b (pos zero) = pos 0
+chosen_for a b (pos (suc c)) = a
+chosen_for a b (negsuc c) = b
+
+-- for the greatest sum the greatest sample stands beside a weight above 0
+abbrev pub near_end : Bool → ℕ → ℤ
+near_end true w = greatest_sample w
+near_end false w = least_sample w
+
+abbrev pub far_end : Bool → ℕ → ℤ
+far_end true w = least_sample w
+far_end false w = greatest_sample w
+
+abbrev pub listed : ℕ → (ℕ → ℤ) → List ℤ
+listed zero f = []
+listed (suc n) f = f zero ∷ listed n (λ k. f (suc k))
+
+-- the samples up to the newest one in the sum at an index, each as its weight asks for
+abbrev pub samples_at : Table → ℕ → List ℤ → Bool → ℕ → List ℤ
+samples_at table w form high index =
+    listed (suc (size (responses_of table (pos index)).newest)) (λ n.
+    chosen_for (near_end high w) (far_end high w) (get_or (through_filter form (responses_of table) (pos index)).weights (size (responses_of table (pos index)).newest - n) (pos 0)))
+
+-- ---- indices
 
 -- the indices of a round of all finer classes
 abbrev pub whole_of : Table → Class → ℕ

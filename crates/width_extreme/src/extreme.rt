@@ -1,15 +1,25 @@
 //! Where a sum reaches an end of its range, and the samples that make it.
 
-ghost use Rattle.std.specs.Prelude.{◌≡◌, ℕ, ◌+◌, ◌*◌, ◌<◌, ◌≤◌, ◌^◌, ◌⊎◌, length};
+ghost use Rattle.std.specs.Prelude.{◌≡◌, ℕ, ◌+◌, ◌*◌, ◌<◌, ◌≤◌, ◌^◌, ◌⊎◌, length, pos, true, IfOk};
 ghost use Rattle.width_extreme.specs.Furthest.{IsFurther, IsPast};
 
-use crate::prefix::PrefixRanges;
+use crate::prefix::{Entry, PrefixRanges};
 use impulse_phase::common;
+use mr_values::Memory;
 use stage_law::{Class, WeightedSum};
+use std::alloc::Global;
 
 /// The index at which some samples make a sum reach an end of its range, and that end.
 #[derive(Clone, Copy, Debug, PartialEq, Eq)]
 pub struct Reached {
+    pub index: u64,
+    pub value: i128,
+}
+
+/// Samples that make a sum reach an end of its range, the index at which they do, and that end.
+#[derive(Drop)]
+pub struct Extreme {
+    pub samples: Vec<i64>,
     pub index: u64,
     pub value: i128,
 }
@@ -25,8 +35,8 @@ impl PrefixRanges {
     ghost use Rattle.stage_law.specs.Weights.{weights_of};
     ghost use Rattle.impulse_phase.specs.Reading.{rows_of, responses_of};
     ghost use Rattle.width_extreme.specs.Prefix.{finer_classes};
-    ghost use Rattle.width_extreme.specs.Walk.{needed_for, HasFormRoom};
-    ghost use Rattle.width_extreme.specs.Furthest.{end_at, whole_of, IsNear, IsEndReachable};
+    ghost use Rattle.width_extreme.specs.Walk.{delay_at, needed_for, IsEntry, HasFormRoom};
+    ghost use Rattle.width_extreme.specs.Furthest.{end_at, whole_of, chosen_for, near_end, far_end, samples_at, IsNear, IsEndReached, IsEndReachable};
 
     /// The greatest value of the sum over the streams and the indices of the class, or else the least, and an index
     /// of the class at which some samples of the width make it. It takes no memory.
@@ -36,10 +46,110 @@ impl PrefixRanges {
         requires near { IsNear self.now.table self.now.longest sum.now class }
         ensures { IsEndReachable self.now.table self.now.width self.now.longest sum.now class high result.index result.value }
     {
+        self.reach(sum, class, high)
+    }
+
+    /// The same, with samples that make the sum this end: each stands at the end of its width that its weight asks for,
+    /// and is 0 where the weight is 0. Fails only for want of memory.
+    pub fn extreme(
+        &self,
+        alloc: Global,
+        sum: &WeightedSum,
+        class: Class,
+        high: bool,
+    ) -> Result<Extreme, Memory>
+        requires class { class.residue < class.modulus }
+        requires room { HasFormRoom self.now.table self.now.width (weights_of sum.now) }
+        requires near { IsNear self.now.table self.now.longest sum.now class }
+        ensures reached { IfOk result (λ extreme. IsEndReached self.now.table self.now.width self.now.longest sum.now class high extreme.samples.items extreme.index extreme.value) }
+        ensures samples { IfOk result (λ extreme. extreme.samples.items ≡ samples_at self.now.table self.now.width (weights_of sum.now) high extreme.index) }
+    {
+        let reached = self.reach(sum, class, high);
+        let samples = self.samples(alloc, sum, reached.index, high)?;
+        Ok(Extreme {
+            samples,
+            index: reached.index,
+            value: reached.value,
+        })
+    }
+
+    // The end, and the index at which it is reached.
+    fn reach(&self, sum: &WeightedSum, class: Class, high: bool) -> Reached
+        requires class { class.residue < class.modulus }
+        requires room { HasFormRoom self.now.table self.now.width (weights_of sum.now) }
+        requires near { IsNear self.now.table self.now.longest sum.now class }
+        ensures { IsEndReached self.now.table self.now.width self.now.longest sum.now class high
+            (samples_at self.now.table self.now.width (weights_of sum.now) high result.index) result.index result.value }
+    {
         let furthest = self.furthest(sum, class, high);
         Reached {
             index: self.index_past(sum, class, furthest.finer),
             value: furthest.value,
+        }
+    }
+
+    // The samples up to the newest one in the sum at an index, each as its weight asks for.
+    fn samples(
+        &self,
+        alloc: Global,
+        sum: &WeightedSum,
+        index: u64,
+        high: bool,
+    ) -> Result<Vec<i64>, Memory>
+        requires room { HasFormRoom self.now.table self.now.width (weights_of sum.now) }
+        ensures { IfOk result (λ samples. samples.items ≡ samples_at self.now.table self.now.width (weights_of sum.now) high index) }
+    {
+        let factors = sum.weights.as_slice();
+        let first = index % self.table.classes();
+        let newest = self.newest_at(index);
+        let mut samples = Vec::new(alloc);
+        let mut place = 0u128;
+        let mut start = 0usize;
+        let mut entry = self.first_entry(first, sum.behind);
+        'places: while place <= newest {
+            if start < factors.len() && self.is_spent(first, entry, place) {
+                entry = self.next_entry(first, entry);
+                start += 1;
+            } else {
+                let weight = self.weight_at(first, entry, &factors[start..], place);
+                samples.push(self.sample_for(weight, high))?;
+                place += 1;
+            }
+        }
+        samples.reverse();
+        Ok(samples)
+    }
+
+    // Whether the entry reaches no place from this one on.
+    fn is_spent(&self, index: u64, entry: Entry, place: u128) -> bool
+        requires index { index < length (rows_of self.now.table) }
+        requires entry { IsEntry self.now.table index entry.back entry.class entry.late }
+        requires near { entry.back ≤ 2 ^ 66 }
+        ensures { result ≡ true → delay_at self.now.table index entry.back + self.now.longest ≤ place }
+    {
+        self.delay(index, entry) + u128::from(self.longest) <= place
+    }
+
+    // The newest sample of an index.
+    fn newest_at(&self, index: u64) -> u128
+        ensures newest { pos result ≡ (responses_of self.now.table (pos index)).newest }
+        ensures small { result < 2 ^ 97 }
+    {
+        let classes = self.table.classes();
+        let newest = u128::from(self.table.newest(index % classes));
+        newest + u128::from(index / classes) * u128::from(self.table.step())
+    }
+
+    // The sample that a weight asks for.
+    fn sample_for(&self, weight: i128, high: bool) -> i64
+        ensures { result ≡ chosen_for (near_end high self.now.width) (far_end high self.now.width) weight }
+    {
+        if weight == 0 {
+            0
+        } else if (weight > 0) == high {
+            self.greatest() as i64
+        } else {
+            self.least() as i64
         }
     }
 

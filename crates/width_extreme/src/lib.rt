@@ -15,7 +15,7 @@ ghost use Rattle.impulse_phase.specs.Response.{AreLinear, responses, full_cycle}
 ghost use Rattle.width_extreme.specs.Prefix.{IsStream, range_of, finer_classes};
 
 pub use chain::ChainRanges;
-pub use extreme::Reached;
+pub use extreme::{Extreme, Reached};
 pub use prefix::PrefixRanges;
 
 /// The range of a form over the streams that a prefix without roundings makes of samples of a width: both ends are reached.

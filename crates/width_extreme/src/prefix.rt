@@ -30,10 +30,10 @@ pub struct PrefixRanges {
 
 // The index some values before another, as one of the first round, and the newest sample of the other as that many rounds later.
 #[derive(Clone, Copy)]
-struct Entry {
-    back: u128,
-    class: u64,
-    late: u128,
+pub(crate) struct Entry {
+    pub(crate) back: u128,
+    pub(crate) class: u64,
+    pub(crate) late: u128,
 }
 
 impl PrefixRanges {
@@ -107,21 +107,21 @@ impl PrefixRanges {
     }
 
     // The least sample.
-    fn least(&self) -> i128
+    pub(crate) fn least(&self) -> i128
         ensures { result ≡ least_sample self.now.width }
     {
         -power(self.width - 1)
     }
 
     // The greatest sample.
-    fn greatest(&self) -> i128
+    pub(crate) fn greatest(&self) -> i128
         ensures { result ≡ greatest_sample self.now.width }
     {
         power(self.width - 1) - 1
     }
 
     // The weight of the sample `place` before the newest one, in the sum of the values from the entry on backwards.
-    fn weight_at(&self, index: u64, entry: Entry, factors: &[i128], place: u128) -> i128
+    pub(crate) fn weight_at(&self, index: u64, entry: Entry, factors: &[i128], place: u128) -> i128
         requires index { index < length (rows_of self.now.table) }
         requires entry { IsEntry self.now.table index entry.back entry.class entry.late }
         requires near { entry.back + length factors.now ≤ 2 ^ 66 }
@@ -155,7 +155,7 @@ impl PrefixRanges {
     }
 
     // How many samples the newest one of the entry lies behind that of the index.
-    fn delay(&self, index: u64, entry: Entry) -> u128
+    pub(crate) fn delay(&self, index: u64, entry: Entry) -> u128
         requires index { index < length (rows_of self.now.table) }
         requires entry { IsEntry self.now.table index entry.back entry.class entry.late }
         ensures delay { result ≡ delay_at self.now.table index entry.back }
@@ -167,7 +167,7 @@ impl PrefixRanges {
     }
 
     // The index so many values before.
-    fn first_entry(&self, index: u64, back: u64) -> Entry
+    pub(crate) fn first_entry(&self, index: u64, back: u64) -> Entry
         requires { index < length (rows_of self.now.table) }
         ensures entry { IsEntry self.now.table index result.back result.class result.late }
         ensures back { result.back ≡ back }
@@ -193,7 +193,7 @@ impl PrefixRanges {
     }
 
     // The index one value before that of the entry.
-    fn next_entry(&self, index: u64, entry: Entry) -> Entry
+    pub(crate) fn next_entry(&self, index: u64, entry: Entry) -> Entry
         requires index { index < length (rows_of self.now.table) }
         requires entry { IsEntry self.now.table index entry.back entry.class entry.late }
         requires near { entry.back < 2 ^ 66 }

@@ -3,7 +3,7 @@ use Rattle.std.proofs.lemmas.Int.{to_z-of_z}
 use mir.Syntax.{w128}
 use mir.Val.{SFits}
 use Rattle.width_extreme.proofs.FarEnds.{far-end}
-use Rattle.width_extreme.proofs.prefix.PrefixRanges.extreme_value.Goals as goal
+use Rattle.width_extreme.proofs.prefix.PrefixRanges.reach.Goals as goal
 
 pub returns : goal.returns
 returns c =
