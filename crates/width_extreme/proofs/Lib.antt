@@ -8,6 +8,7 @@ pub mod Histories
 pub mod Lawful
 pub mod Modest
 pub mod Ranges
+pub mod Rooms
 pub mod Rows
 pub mod Samples
 pub mod Streams
