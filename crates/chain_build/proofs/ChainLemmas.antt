@@ -65,8 +65,8 @@ built-groups (Filter taps Symmetric ∷ es) h = absurd (cc)
 built-groups (Filter taps HalfBand ∷ es) h = absurd (cc)
 built-groups (Filter taps (Folded slots) ∷ es) h = absurd (cc)
 built-groups (Filter taps (Distributed group) ∷ es) h = absurd (cc)
-built-groups (CicDown factor stages delay ∷ es) h = absurd (cc)
-built-groups (CicUp factor stages delay ∷ es) h = absurd (cc)
+built-groups (CicDown factor stages delay ∷ es) h = (tt, built-groups es h)
+built-groups (CicUp factor stages delay ∷ es) h = (tt, built-groups es h)
 built-groups (Round shift mode ∷ es) h = (tt, built-groups es h)
 
 -- ---- a net of one input

@@ -26,8 +26,8 @@ use Rattle.chain_build.proofs.Counting.{AreApart-before, HasSame, HasSame-grows,
 -- the tables of the built groups
 tables_of : (g : Group) (facts : StageFacts) → HasFacts g facts → facts.tables ≡ 0
 tables_of (Fir up filter down) facts has = ap (λ (f : StageFacts). f.tables) has
-tables_of (DownCic factor stages delay) facts has = absurd has
-tables_of (UpCic factor stages delay) facts has = absurd has
+tables_of (DownCic factor stages delay) facts has = ap (λ (f : StageFacts). f.tables) has
+tables_of (UpCic factor stages delay) facts has = ap (λ (f : StageFacts). f.tables) has
 tables_of (Rounding shift mode) facts has = ap (λ (f : StageFacts). f.tables) has
 
 after_none : (n : ℕ) → 0 + n ≡ n

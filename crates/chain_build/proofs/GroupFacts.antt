@@ -1,11 +1,12 @@
 -- A group as a stage does to a sequence what its elements do.
-use Rattle.std.proofs.Common.{◌≡◌, ℕ, ◌+◌, refl, sym, ◌∙◌, ap, arith, subst, List, [], ◌∷◌, ℤ, pos, ◌+ℤ◌, ◌-ℤ◌, ◌*ℤ◌, Option, None, Some, true}
+use Rattle.std.proofs.Common.{◌≡◌, ℕ, ◌+◌, ◌-◌, ◌*◌, ◌/◌, refl, sym, ◌∙◌, ap, arith, subst, List, [], ◌∷◌, ℤ, pos, ◌+ℤ◌, ◌-ℤ◌, ◌*ℤ◌, Option, None, Some, true}
 use Rattle.std.specs.Prelude.{unsigned_abs, unwrap_or}
 use Rattle.std.proofs.Math.Path.{fun_ext}
 use Rattle.std.proofs.lemmas.Int.{ints}
 use Rattle.mr_values.specs.declared.plan.Form.{Form}
 use Rattle.mr_values.specs.declared.plan.Form.TheVariants.{Parallel}
 use Rattle.mr_values.proofs.Plain.{up-one}
+use Rattle.cic_chain.specs.Facts.{cic_down_facts, cic_up_facts}
 use Rattle.polyphase_fir.specs.Facts.{polyphase_facts}
 use Rattle.stage_law.specs.Streams.{magnitudes}
 use Rattle.chain_build.specs.Built.{IsBuiltGroup, IsPlainGroup}
@@ -28,6 +29,17 @@ pub record IsFactsOf (g : Group) (facts : StageFacts) : Type 0 where
 
 rounding-is : (shift : ℕ) (mode : Mode) → IsFactsOf (Rounding shift mode) (rounding_facts shift mode)
 rounding-is shift mode = record { does = λ v. refl; up = refl; down = refl; delay = λ s. refl }
+
+down-is : (factor stages delay : ℕ) → IsFactsOf (DownCic factor stages delay) (cic_down_facts factor stages delay)
+down-is factor stages delay = record { does = λ v. refl; up = refl; down = refl; delay = λ s. refl }
+
+up-is : (factor stages delay : ℕ) → IsFactsOf (UpCic factor stages delay) (cic_up_facts factor stages delay)
+up-is factor stages delay = record {
+  does = λ v. refl;
+  up = refl;
+  down = refl;
+  delay = λ s. let same : s.period ≡ s.period * 1 = omega arith in ap (λ (n : ℕ). stages + (stages - 1) * (n / factor) + 1) same;
+}
 
 -- ---- a group without an Up, a Filter or a Down
 
@@ -69,13 +81,13 @@ magnitudes-is (c ∷ cs) = ap (λ (n : ℕ). unsigned_abs c + n) (magnitudes-is 
 
 pub facts-is : (g : Group) (facts : StageFacts) → IsBuiltGroup g → HasFacts g facts → IsFactsOf g facts
 facts-is (Fir u f d) facts is h = subst (IsFactsOf (Fir u f d)) (sym h) (fir-is u f d is)
-facts-is (DownCic factor stages delay) facts is h = absurd h
-facts-is (UpCic factor stages delay) facts is h = absurd h
+facts-is (DownCic factor stages delay) facts is h = subst (IsFactsOf (DownCic factor stages delay)) (sym h) (down-is factor stages delay)
+facts-is (UpCic factor stages delay) facts is h = subst (IsFactsOf (UpCic factor stages delay)) (sym h) (up-is factor stages delay)
 facts-is (Rounding shift mode) facts is h = subst (IsFactsOf (Rounding shift mode)) (sym h) (rounding-is shift mode)
 
 -- a group that doesn't round carries its elements in the uncut run too
 pub plain-carries : (g : Group) (facts : StageFacts) → IsPlainGroup g → HasFacts g facts → carries_uncut facts.kind ≡ true
 plain-carries (Fir u f d) facts plain h = ap (λ (e : StageFacts). carries_uncut e.kind) h
-plain-carries (DownCic factor stages delay) facts plain h = absurd h
-plain-carries (UpCic factor stages delay) facts plain h = absurd h
+plain-carries (DownCic factor stages delay) facts plain h = ap (λ (e : StageFacts). carries_uncut e.kind) h
+plain-carries (UpCic factor stages delay) facts plain h = ap (λ (e : StageFacts). carries_uncut e.kind) h
 plain-carries (Rounding shift mode) facts plain h = absurd plain

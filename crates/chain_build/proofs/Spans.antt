@@ -5,14 +5,14 @@ use Rattle.std.proofs.lemmas.Int.{ints}
 use Rattle.mr_values.specs.declared.plan.Mode.{Mode}
 use Rattle.mr_values.specs.declared.plan.Element.TheVariants.{Round}
 use Rattle.mr_values.specs.declared.plan.Form.{Form}
-use Rattle.mr_values.specs.Sequence.{Sequence, weighted_sum, filter, up, down}
+use Rattle.mr_values.specs.Sequence.{Sequence, weighted_sum, filter, filter_times, ones, up, down}
 use Rattle.mr_values.specs.Value.{round, round_value}
 use Rattle.mr_values.specs.Width.{floor_quotient, floor_remainder}
 use Rattle.mr_values.specs.Timing.{Group, Fir, DownCic, UpCic, Rounding, taps_of, low_end, high_end, low_after, high_after}
 use Rattle.mr_values.proofs.Zeros.{zeros, apply-zeros}
 use Rattle.plan_check.specs.Groups.{IsGroup}
 use Rattle.plan_laws.specs.Laws.{IsBetween}
-use Rattle.plan_laws.proofs.Between.{between-filter, between-up, between-down, between-round}
+use Rattle.plan_laws.proofs.Between.{between-filter, between-up, between-down, between-moving, between-round}
 use Rattle.plan_laws.proofs.Reach.{apply_group, optional, filter_by}
 use Rattle.stage_law.specs.Streams.{HasRoom}
 use Rattle.span_ranges.specs.Span.{IsInSpan}
@@ -46,6 +46,10 @@ weighted-none (c ∷ cs) f none =
 causal-filter : (taps : List ℤ) (v : Sequence) → IsCausal v → IsCausal (filter taps v)
 causal-filter taps v h n = weighted-none taps (λ k. v (negsuc n -ℤ pos k)) (λ k. let at : negsuc n -ℤ pos k ≡ negsuc (n + k) = omega (arith, ints) in ap v at ∙ h (n + k))
 
+causal-sums : (stages width : ℕ) (v : Sequence) → IsCausal v → IsCausal (filter_times stages (ones width) v)
+causal-sums zero width v h = h
+causal-sums (suc stages) width v h = causal-filter (ones width) (filter_times stages (ones width) v) (causal-sums stages width v h)
+
 causal-up : (factor : ℕ) (v : Sequence) → IsCausal v → IsCausal (up factor v)
 causal-up factor v h n = by (nat_eq (floor_remainder (negsuc n) factor) 0)
   where
@@ -75,8 +79,18 @@ pub in_span-group : (g : Group) (low high : ℤ) (v : Sequence) → IsGroup g �
 in_span-group (Fir u f d) low high v limits is h =
     in_span-down (low_end (taps_of f) low high) (high_end (taps_of f) low high) (optional filter_by f (optional up u v)) d limits.down_low
     (in_span-filter low high (optional up u v) f (in_span-up low high v u h))
-in_span-group (DownCic factor stages delay) low high v limits is h = absurd is
-in_span-group (UpCic factor stages delay) low high v limits is h = absurd is
+in_span-group (DownCic factor stages delay) low high v limits is h =
+    let all = factor * delay in
+    record {
+      causal = causal-down factor (filter_times stages (ones all) v) limits.factor_low (causal-sums stages all v h.causal);
+      within = between-down factor (pos (all ^ stages) *ℤ low) (pos (all ^ stages) *ℤ high) (filter_times stages (ones all) v) (between-moving stages all low high v h.within);
+    }
+in_span-group (UpCic factor stages delay) low high v limits is h =
+    let all = factor * delay in
+    record {
+      causal = causal-sums stages all (up factor v) (causal-up factor v h.causal);
+      within = between-moving stages all low high (up factor v) (between-up factor low high v (zero-in_span low high v h) h.within);
+    }
 in_span-group (Rounding shift mode) low high v limits is h = in_span-round shift mode low high v limits.0 h
 
 -- ---- spans that hold 0

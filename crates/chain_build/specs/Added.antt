@@ -16,6 +16,7 @@ use Rattle.net_graph.specs.Name.{is_input}
 use Rattle.net_graph.specs.Run.{Values, IsRun}
 use Rattle.net_graph.specs.WellFormed.{IsBound, IsFree}
 use Rattle.pipeline_balance.specs.Gate.{Carries}
+use Rattle.cic_chain.specs.Facts.{cic_down_facts, cic_up_facts}
 use Rattle.polyphase_fir.specs.Facts.{polyphase_facts}
 use Rattle.rounding_stage.specs.Rounding.{rounding_facts}
 use Rattle.span_ranges.specs.Span.{IsInSpan}
@@ -28,8 +29,8 @@ use Rattle.chain_build.specs.Built.{ArePlainGroups, kind_of}
 -- what a group is as a stage
 abbrev pub HasFacts : Group → StageFacts → Type 0
 HasFacts (Fir up filter down) facts = facts ≡ polyphase_facts (taps_of filter) (unwrap_or up 1) (unwrap_or down 1)
-HasFacts (DownCic factor stages delay) facts = ⊥
-HasFacts (UpCic factor stages delay) facts = ⊥
+HasFacts (DownCic factor stages delay) facts = facts ≡ cic_down_facts factor stages delay
+HasFacts (UpCic factor stages delay) facts = facts ≡ cic_up_facts factor stages delay
 HasFacts (Rounding shift mode) facts = facts ≡ rounding_facts shift mode
 
 -- the periods at which a group takes a stream

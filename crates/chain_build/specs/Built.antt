@@ -21,8 +21,8 @@ abbrev pub is_built : Element → Bool
 is_built (Up factor) = true
 is_built (Down factor) = true
 is_built (Filter taps form) = is_parallel form
-is_built (CicDown factor stages delay) = false
-is_built (CicUp factor stages delay) = false
+is_built (CicDown factor stages delay) = true
+is_built (CicUp factor stages delay) = true
 is_built (Round shift mode) = true
 
 -- all elements are built
@@ -32,8 +32,8 @@ are_built elements = list_all is_built elements
 -- a group of elements that are built
 abbrev pub IsBuiltGroup : Group → Type 0
 IsBuiltGroup (Fir up filter down) = form_of filter ≡ Parallel
-IsBuiltGroup (DownCic factor stages delay) = ⊥
-IsBuiltGroup (UpCic factor stages delay) = ⊥
+IsBuiltGroup (DownCic factor stages delay) = Unit {0}
+IsBuiltGroup (UpCic factor stages delay) = Unit {0}
 IsBuiltGroup (Rounding shift mode) = Unit {0}
 
 abbrev pub AreBuiltGroups : List Group → Type 0

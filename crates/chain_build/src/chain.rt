@@ -37,8 +37,11 @@ fn can_add(element: &Element) -> bool
 {
     match element {
         Element::Filter { form, .. } => is_parallel(*form),
-        Element::Up { .. } | Element::Down { .. } | Element::Round { .. } => true,
-        Element::CicDown { .. } | Element::CicUp { .. } => false,
+        Element::Up { .. }
+        | Element::Down { .. }
+        | Element::CicDown { .. }
+        | Element::CicUp { .. }
+        | Element::Round { .. } => true,
     }
 }
 

@@ -16,6 +16,7 @@ ghost use Rattle.chain_build.specs.Built.{IsBuiltGroup, AreBuiltGroups};
 ghost use Rattle.chain_build.specs.Added.{IsTaking, IsGroupAdded, AreNameless, IsChained};
 ghost use Rattle.chain_build.specs.GroupCosts.{AreUngrouped, AreApart, HasCosts};
 
+use crate::cascades::{down_group, up_group};
 use mr_values::{Memory, Plan};
 use net_graph::{Net, Stream};
 use plan_check::{Facts, FirFilter, GroupFacts, PlanGroup, split_group};
@@ -46,8 +47,8 @@ pub(crate) struct Chained {
     pub(crate) costs: Vec<GroupCost>,
 }
 
-// Adds the nodes of a stage.
-fn emit_stage<S: Stage>(
+/// Adds the nodes of a stage.
+pub(crate) fn emit_stage<S: Stage>(
     alloc: Global,
     net: &mut Net,
     from: Stream,
@@ -121,7 +122,16 @@ fn add_group(
             let added = emit_stage(alloc, net, from, &stage, ranges)?;
             Ok(added)
         }
-        PlanGroup::CicDown { .. } | PlanGroup::CicUp { .. } => unreachable!(),
+        PlanGroup::CicDown {
+            factor,
+            stages,
+            delay,
+        } => down_group(alloc, net, from, group, *factor, *stages, *delay, ranges),
+        PlanGroup::CicUp {
+            factor,
+            stages,
+            delay,
+        } => up_group(alloc, net, from, group, *factor, *stages, *delay, ranges),
     }
 }
 

@@ -1,6 +1,7 @@
 //! From a plan to the net that computes it.
 #![tactic(auto)]
 
+mod cascades;
 mod chain;
 mod groups;
 mod output;

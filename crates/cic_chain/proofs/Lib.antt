@@ -5,6 +5,7 @@ pub mod PieceLemmas
 pub mod RealisesLemmas
 pub mod RowLemmas
 pub mod SampleLemmas
+pub mod SilentLemmas
 pub mod StepLemmas
 pub mod UpLemmas
 pub mod WeightLemmas

@@ -19,7 +19,7 @@ use std::alloc::Global;
 /// A decimator by `factor` of N integrators and N combs, each comb over D values.
 #[derive(Clone, Copy, Debug, PartialEq, Eq)]
 pub struct CicDown<const N: usize, const D: usize> {
-    factor: u32,
+    pub factor: u32,
     ghost factor_low: { 1 ≤ factor },
     ghost factor_high: { factor ≤ 4096 },
     ghost some: { 1 ≤ N },
@@ -104,7 +104,7 @@ impl<const N: usize, const D: usize> Stage for CicDown<N, D> {
 /// An interpolator by `factor` of N combs and N integrators, each comb over D values.
 #[derive(Clone, Copy, Debug, PartialEq, Eq)]
 pub struct CicUp<const N: usize, const D: usize> {
-    factor: u32,
+    pub factor: u32,
     ghost factor_low: { 1 ≤ factor },
     ghost factor_high: { factor ≤ 4096 },
     ghost some: { 1 ≤ N },
