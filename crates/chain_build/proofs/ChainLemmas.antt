@@ -8,6 +8,7 @@ use Rattle.mr_values.specs.declared.plan.Element.{Element}
 use Rattle.mr_values.specs.declared.plan.Element.TheVariants.{Up, Down, Filter, CicDown, CicUp, Round}
 use Rattle.mr_values.specs.declared.plan.Form.TheVariants.{Parallel, Symmetric, HalfBand, Folded, Distributed}
 use Rattle.mr_values.specs.Timing.{Group, Fir, DownCic, UpCic, Rounding, join_up, join_filter, groups, input, last_stream, latency}
+use Rattle.mr_values.specs.Sequence.{samples}
 use Rattle.mr_values.specs.Value.{chain, size}
 use Rattle.mr_values.specs.Width.{FitsWidth}
 use Rattle.net_graph.specs.declared.cell.Cell.{Cell}
@@ -23,18 +24,22 @@ use Rattle.net_graph.specs.Grow.{Adds}
 use Rattle.net_graph.proofs.CutLemmas.{IsCut-all, IsCut-control}
 use Rattle.net_graph.proofs.NetLemmas.{cell_of_added}
 use Rattle.pipeline_balance.specs.Gate.{IsTickOf, IsBitOf, Carries}
+use Rattle.impulse_phase.specs.Response.{AreLinear}
 use Rattle.plan_laws.specs.Laws.{IsBetween}
 use Rattle.rounding_stage.proofs.MapLemmas.{fits_between}
 use Rattle.chain_build.specs.declared.groups.GroupCost.{GroupCost}
 use Rattle.chain_build.specs.declared.output.Outputs.{Outputs}
 use Rattle.chain_build.specs.Added.{IsGrown, AreNameless, CarriesChain, IsChained}
-use Rattle.chain_build.specs.Built.{are_built, AreBuiltGroups}
+use Rattle.chain_build.specs.Built.{are_built, AreBuiltGroups, has_rounding}
 use Rattle.chain_build.specs.ChainNet.{HasInput, ShowsValues, IsChainNet}
 use Rattle.chain_build.specs.GroupCosts.{AreUngrouped, AreApart, HasCosts}
+use Rattle.chain_build.specs.Linear.{output_range}
 use Rattle.chain_build.specs.Output.{AddsOutputs}
 use Rattle.chain_build.proofs.CostsSoFar.{HasCosts-outputs}
 use Rattle.chain_build.proofs.Counting.{AreApart-before}
 use Rattle.chain_build.proofs.Grown.{IsGrown-trans}
+use Rattle.chain_build.proofs.OutputRange.{RangesOver, ranges-over}
+use Rattle.chain_build.proofs.Samples.{the_samples, samples-inside}
 
 -- ---- which plans are built
 
@@ -124,25 +129,25 @@ sample_fits width ticks z h =
     let some = pow_pos (width - 1) in
     record { low = l; high = omega (arith, ints, g, some) }
 
-small_fits : (z : ℤ) → unsigned_abs z ≤ 2 ^ 125 → FitsWidth 127 z
-small_fits (pos n) h = record { low = omega (arith, ints); high = omega (arith, ints, h) }
-small_fits (negsuc n) h = record { low = omega (arith, ints, h); high = omega (arith, ints) }
-
 -- ---- the whole
 
 module _ {n1 n2 n3 : NetView} {node : Node} {stream : Stream} {outputs : Outputs} (width ticks : ℕ) (elements : List Element) (wide : 1 ≤ width) (a : Adds empty n1 node width Input)
     (chained : (let from : Stream = record { node = node; period = ticks; offset = 0 } in IsChained width ticks elements n1 n2 from stream))
-    (outs : AddsOutputs (last_stream width ticks elements).low (last_stream width ticks elements).high n2 n3 stream outputs) where
+    (linear : has_rounding (groups elements) ≡ false → AreLinear elements) (outs : AddsOutputs (output_range width ticks elements).lo (output_range width ticks elements).hi n2 n3 stream outputs) where
+  over : RangesOver width elements (output_range width ticks elements)
+  over = ranges-over width ticks elements (last_stream width ticks elements).low (last_stream width ticks elements).high chained.low_small chained.high_small chained.span refl refl linear
+
   grown : IsGrown n1.cells n3.cells
   grown = IsGrown-trans n1.cells n2.cells n3.cells chained.grown outs.grown
 
   pub bound3 : IsBound n3.cells
   bound3 = grown.bound (bound1 a)
 
-  shows : (cut : Cut) → IsCut cut → (let from : Stream = record { node = node; period = ticks; offset = 0 } in CarriesChain cut width ticks elements n2.cells from stream) → ShowsValues cut width ticks elements n3.cells outputs.out_q
-  shows cut law through_chain inputs values v samples are run =
-      let last = last_stream width ticks elements in
-      let fits : (k : ℕ) → FitsWidth width (v (pos k)) = λ k. sample_fits width ticks (v (pos k)) (samples.within (pos k)) in
+  shows : (cut : Cut) → IsCut cut → (let from : Stream = record { node = node; period = ticks; offset = 0 } in CarriesChain cut width elements n2.cells from stream) → ShowsValues cut width ticks elements n3.cells outputs.out_q
+  shows cut law through_chain inputs values xs fit are run =
+      let v = samples xs in
+      let inside = samples-inside width ticks v (the_samples xs fit) in
+      let fits : (k : ℕ) → FitsWidth width (v (pos k)) = λ k. sample_fits width ticks (v (pos k)) (inside.within (pos k)) in
       let from : Stream = record { node = node; period = ticks; offset = 0 } in
       let carried : Carries values from v =
       λ k.
@@ -151,10 +156,10 @@ module _ {n1 n2 n3 : NetView} {node : Node} {stream : Stream} {outputs : Outputs
       ∙ (grown.extends.runs cut law inputs values run).each node.place _ (cell_of_added a) (k * ticks)
       ∙ ap (cut false width) (are k)
       ∙ law.fitting false width (v (pos k)) wide (fits k) in
-      let through = through_chain inputs values v samples (outs.grown.extends.runs cut law inputs values run) carried in
-      let span = chained.span v samples in
+      let through = through_chain inputs values xs fit (outs.grown.extends.runs cut law inputs values run) carried in
+      let range = output_range width ticks elements in
       let out_fits : (k : ℕ) → FitsWidth outs.width (chain elements v (pos k)) =
-      λ k. fits_between outs.width last.low (chain elements v (pos k)) last.high outs.least.holds_low outs.least.holds_high (span.within (pos k)).least (span.within (pos k)).greatest in
+      λ k. let held = over.holds xs fit k in fits_between outs.width range.lo (chain elements v (pos k)) range.hi outs.least.holds_low outs.least.holds_high held.least held.greatest in
       let shown = outs.carries cut law inputs values (chain elements v) out_fits run through in
       subst (λ (p : ℕ). Carries values (record { node = outputs.out_q; period = p; offset = latency width ticks elements }) (chain elements v)) chained.period
       (subst (λ (o : ℕ). Carries values (record { node = outputs.out_q; period = stream.period; offset = o + 1 }) (chain elements v)) chained.offset shown)
@@ -166,7 +171,7 @@ module _ {n1 n2 n3 : NetView} {node : Node} {stream : Stream} {outputs : Outputs
     closed = grown.closed (closed1 a);
     out_width = outs.width;
     least = outs.least;
-    narrow = outs.least.least 127 (omega arith) (small_fits (last_stream width ticks elements).low chained.low_small) (small_fits (last_stream width ticks elements).high chained.high_small);
+    narrow = outs.least.least 127 (omega arith) over.low_fits over.high_fits;
     group = outs.group;
     register = outs.register;
     shown = outs.shown;

@@ -47,7 +47,7 @@ up-optional : (u : Option ℕ) (v : Sequence) → up (unwrap_or u 1) v ≡ optio
 up-optional None v = up-one v
 up-optional (Some factor) v = refl
 
-filter-one : (v : Sequence) → filter (pos 1 ∷ []) v ≡ v
+pub filter-one : (v : Sequence) → filter (pos 1 ∷ []) v ≡ v
 filter-one v = fun_ext (λ n. let at : n -ℤ pos 0 ≡ n = omega (arith, ints) in rw at (one_term (v n)))
   where
     one_term : (z : ℤ) → pos 1 *ℤ z +ℤ pos 0 ≡ z

@@ -1,9 +1,10 @@
 -- What the groups of a plan add to a net, one after another.
-use Rattle.std.specs.Prelude.{◌≡◌, ℕ, ℤ, ◌-◌, ◌*◌, ◌%◌, ◌^◌, ◌≤◌, ◌<◌, false, List, length, Some, slice_get, unsigned_abs, unwrap_or}
+use Rattle.std.specs.Prelude.{◌≡◌, ℕ, ℤ, ◌-◌, ◌*◌, ◌%◌, ◌^◌, ◌≤◌, ◌<◌, false, List, length, Some, slice_get, unsigned_abs, unwrap_or, All}
 use Rattle.mr_values.specs.declared.plan.Element.{Element}
-use Rattle.mr_values.specs.Sequence.{Sequence}
+use Rattle.mr_values.specs.Sequence.{samples}
 use Rattle.mr_values.specs.Value.{chain}
-use Rattle.mr_values.specs.Timing.{Group, Fir, DownCic, UpCic, Rounding, taps_of, up_factor, down_factor, groups, input, last_stream}
+use Rattle.mr_values.specs.Timing.{Group, Fir, DownCic, UpCic, Rounding, taps_of, up_factor, down_factor, groups, last_stream}
+use Rattle.mr_values.specs.Width.{FitsWidth}
 use Rattle.net_graph.specs.declared.cell.Cell.{Cell}
 use Rattle.net_graph.specs.declared.cell.Stream.{Stream}
 use Rattle.net_graph.specs.declared.name.Name.{Name}
@@ -61,9 +62,9 @@ pub record AreNameless (cells : List Cell) : Type 0 where
   pub free : (name : Name) → IsFree cells name
 
 -- in each run that is cut so, where one stream carries samples of the width, the other carries the chain's values
-abbrev pub CarriesChain : Cut → ℕ → ℕ → List Element → List Cell → Stream → Stream → Type 0
-CarriesChain cut width ticks elements cells from to =
-    (inputs : ℕ → ℤ) (values : Values) (v : Sequence) → IsInSpan (input width ticks).low (input width ticks).high v → IsRun cut cells inputs values → Carries values from v → Carries values to (chain elements v)
+abbrev pub CarriesChain : Cut → ℕ → List Element → List Cell → Stream → Stream → Type 0
+CarriesChain cut width elements cells from to =
+    (inputs : ℕ → ℤ) (values : Values) (xs : List ℤ) → All (FitsWidth width) xs → IsRun cut cells inputs values → Carries values from (samples xs) → Carries values to (chain elements (samples xs))
 
 -- The new net has a stream that carries the chain's values, also in the uncut run where no group rounds, with the period, offset and span of the last stream; of names in group 0 only
 -- some of control are taken.
@@ -77,7 +78,7 @@ pub record IsChained (width ticks : ℕ) (elements : List Element) (old new : Ne
   pub early : to.offset < 2 ^ 31
   pub low_small : unsigned_abs (last_stream width ticks elements).low ≤ 2 ^ 125
   pub high_small : unsigned_abs (last_stream width ticks elements).high ≤ 2 ^ 125
-  pub span : (v : Sequence) → IsInSpan (input width ticks).low (input width ticks).high v → IsInSpan (last_stream width ticks elements).low (last_stream width ticks elements).high (chain elements v)
-  pub carries : CarriesChain cut_all width ticks elements new.cells from to
-  pub whole : ArePlainGroups (groups elements) → CarriesChain cut_control width ticks elements new.cells from to
+  pub span : (xs : List ℤ) → All (FitsWidth width) xs → IsInSpan (last_stream width ticks elements).low (last_stream width ticks elements).high (chain elements (samples xs))
+  pub carries : CarriesChain cut_all width elements new.cells from to
+  pub whole : ArePlainGroups (groups elements) → CarriesChain cut_control width elements new.cells from to
   pub names : (name : Name) → (name.kind ≡ Control → ⊥) → name.group ≡ 0 → IsFree new.cells name

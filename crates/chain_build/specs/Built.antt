@@ -1,5 +1,5 @@
 -- Which plans are built.
-use Rattle.std.specs.Prelude.{◌≡◌, Bool, true, false, List, [], ◌∷◌}
+use Rattle.std.specs.Prelude.{◌≡◌, Bool, true, false, if◌then◌else◌, List, [], ◌∷◌}
 use Rattle.std.specs.List.{list_all}
 use Rattle.mr_values.specs.declared.plan.Element.{Element}
 use Rattle.mr_values.specs.declared.plan.Element.TheVariants.{Up, Down, Filter, CicDown, CicUp, Round}
@@ -67,3 +67,14 @@ IsPlainGroup (Rounding shift mode) = ⊥
 abbrev pub ArePlainGroups : List Group → Type 0
 ArePlainGroups [] = Unit {0}
 ArePlainGroups (g ∷ gs) = IsPlainGroup g × ArePlainGroups gs
+
+-- whether a group rounds, and whether one of several does
+abbrev pub rounds : Group → Bool
+rounds (Fir up filter down) = false
+rounds (DownCic factor stages delay) = false
+rounds (UpCic factor stages delay) = false
+rounds (Rounding shift mode) = true
+
+abbrev pub has_rounding : List Group → Bool
+has_rounding [] = false
+has_rounding (g ∷ gs) = if rounds g then true else has_rounding gs

@@ -1,10 +1,10 @@
 -- The net of a plan.
-use Rattle.std.specs.Prelude.{◌≡◌, true, ℕ, ◌≤◌, ◌*◌, ℤ, pos, List, Some, slice_get}
+use Rattle.std.specs.Prelude.{◌≡◌, true, ℕ, ◌≤◌, ◌*◌, ℤ, pos, List, All, Some, slice_get}
 use Rattle.mr_values.specs.declared.plan.Element.{Element}
-use Rattle.mr_values.specs.Sequence.{Sequence}
-use Rattle.mr_values.specs.Timing.{groups, input, last_stream, latency}
+use Rattle.mr_values.specs.Sequence.{Sequence, samples}
+use Rattle.mr_values.specs.Timing.{groups, last_stream, latency}
 use Rattle.mr_values.specs.Value.{chain}
-use Rattle.mr_values.specs.Width.{IsLeastWidth}
+use Rattle.mr_values.specs.Width.{FitsWidth, IsLeastWidth}
 use Rattle.net_graph.specs.declared.cell.Cell.{Cell}
 use Rattle.net_graph.specs.declared.cell.Node.{Node}
 use Rattle.net_graph.specs.declared.name.NameKind.TheVariants.{Output, Valid}
@@ -16,8 +16,8 @@ use Rattle.net_graph.specs.Run.{Values, IsRun}
 use Rattle.net_graph.specs.WellFormed.{IsNetlist}
 use Rattle.pipeline_balance.specs.Gate.{IsTickOf, IsBitOf, Carries}
 use Rattle.pipeline_balance.specs.Numbered.{IsRegister, name_of}
-use Rattle.span_ranges.specs.Span.{IsInSpan}
 use Rattle.chain_build.specs.Built.{ArePlainGroups}
+use Rattle.chain_build.specs.Linear.{output_range}
 
 -- the first node is the only input, and has this width
 pub record HasInput (net : List Cell) (width : ℕ) : Type 0 where
@@ -34,10 +34,10 @@ HasSamples ticks inputs v = (k : ℕ) → inputs (k * ticks) ≡ v (pos k)
 -- in each run that is cut so, over samples of the width, the node has value n of the chain at the tick latency + n * period
 abbrev pub ShowsValues : Cut → ℕ → ℕ → List Element → List Cell → Node → Type 0
 ShowsValues cut width ticks elements net out_q =
-    (inputs : ℕ → ℤ) (values : Values) (v : Sequence) → IsInSpan (input width ticks).low (input width ticks).high v → HasSamples ticks inputs v → IsRun cut net inputs values
-    → Carries values (record { node = out_q; period = (last_stream width ticks elements).period; offset = latency width ticks elements }) (chain elements v)
+    (inputs : ℕ → ℤ) (values : Values) (xs : List ℤ) → All (FitsWidth width) xs → HasSamples ticks inputs (samples xs) → IsRun cut net inputs values
+    → Carries values (record { node = out_q; period = (last_stream width ticks elements).period; offset = latency width ticks elements }) (chain elements (samples xs))
 
--- `out_q` has the least width for the span at the end, and shows the chain's values at its ticks, also in the uncut run where no group
+-- `out_q` has the least width for the range of the chain's values, and shows the chain's values at its ticks, also in the uncut run where no group
 -- rounds; the bit `out_valid` is set exactly
 -- at these ticks.
 pub record IsChainNet (width ticks : ℕ) (elements : List Element) (net : List Cell) (out_q out_valid : Node) : Type 0 where
@@ -45,7 +45,7 @@ pub record IsChainNet (width ticks : ℕ) (elements : List Element) (net : List 
   pub input : HasInput net width
   pub closed : IsControlClosed net
   pub out_width : ℕ
-  pub least : IsLeastWidth (last_stream width ticks elements).low (last_stream width ticks elements).high out_width
+  pub least : IsLeastWidth (output_range width ticks elements).lo (output_range width ticks elements).hi out_width
   pub narrow : out_width ≤ 127
   pub group : ℕ
   pub register : IsRegister net out_q.place group (name_of 0 Output 0) out_width

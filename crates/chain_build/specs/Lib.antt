@@ -1,5 +1,9 @@
 pub mod Added
 pub mod Built
 pub mod ChainNet
+pub mod Extremes
 pub mod GroupCosts
+pub mod Linear
+pub mod LinearNet
 pub mod Output
+pub mod Prefixes

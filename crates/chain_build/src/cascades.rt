@@ -5,7 +5,6 @@ ghost use Rattle.mr_values.specs.Timing.{DownCic, UpCic};
 ghost use Rattle.net_graph.specs.Grow.{Extends};
 ghost use Rattle.plan_check.specs.Amounts.{gain};
 ghost use Rattle.plan_check.specs.Groups.{group_of, IsGroup};
-ghost use Rattle.span_ranges.specs.Span.{IsInSpan};
 ghost use Rattle.stage_law.specs.Realises.{IsUnused};
 ghost use Rattle.stage_law.specs.Streams.{HasRoom};
 ghost use Rattle.chain_build.specs.Added.{IsTaking, IsGroupAdded};
@@ -15,34 +14,34 @@ use cic_chain::{CicDown, CicUp};
 use mr_values::Memory;
 use net_graph::{Net, Stream};
 use plan_check::PlanGroup;
-use span_ranges::SpanRanges;
+use stage_law::Ranges;
 use std::alloc::Global;
 
 // One case for each number of stages.
 macro_rules! for_stages {
     ($stages:expr, $delay:literal, $add:ident, $alloc:expr, $net:expr, $from:expr, $group:expr, $factor:expr, $ranges:expr) => {
         match $stages {
-            1 => $add::<1, $delay>($alloc, $net, $from, $group, $factor, $ranges),
-            2 => $add::<2, $delay>($alloc, $net, $from, $group, $factor, $ranges),
-            3 => $add::<3, $delay>($alloc, $net, $from, $group, $factor, $ranges),
-            4 => $add::<4, $delay>($alloc, $net, $from, $group, $factor, $ranges),
-            5 => $add::<5, $delay>($alloc, $net, $from, $group, $factor, $ranges),
-            6 => $add::<6, $delay>($alloc, $net, $from, $group, $factor, $ranges),
-            7 => $add::<7, $delay>($alloc, $net, $from, $group, $factor, $ranges),
-            8 => $add::<8, $delay>($alloc, $net, $from, $group, $factor, $ranges),
+            1 => $add::<1, $delay, R>($alloc, $net, $from, $group, $factor, $ranges),
+            2 => $add::<2, $delay, R>($alloc, $net, $from, $group, $factor, $ranges),
+            3 => $add::<3, $delay, R>($alloc, $net, $from, $group, $factor, $ranges),
+            4 => $add::<4, $delay, R>($alloc, $net, $from, $group, $factor, $ranges),
+            5 => $add::<5, $delay, R>($alloc, $net, $from, $group, $factor, $ranges),
+            6 => $add::<6, $delay, R>($alloc, $net, $from, $group, $factor, $ranges),
+            7 => $add::<7, $delay, R>($alloc, $net, $from, $group, $factor, $ranges),
+            8 => $add::<8, $delay, R>($alloc, $net, $from, $group, $factor, $ranges),
             _ => unreachable!(),
         }
     };
 }
 
 // Adds the nodes of a decimator of N stages.
-fn add_down<const N: usize, const D: usize>(
+fn add_down<const N: usize, const D: usize, R: Ranges>(
     alloc: Global,
     net: &mut Net,
     from: Stream,
     group: &PlanGroup,
     factor: u32,
-    ranges: &SpanRanges,
+    ranges: &R,
 ) -> Result<Added, Memory>
     requires is { group_of group.now ≡ DownCic factor N D }
     requires within { from.node.place < length net.old.cells }
@@ -51,8 +50,8 @@ fn add_down<const N: usize, const D: usize>(
     requires early { from.offset < 2 ^ 31 }
     requires limits { IsGroup (group_of group.now) }
     requires takes { IsTaking (group_of group.now) from.period }
-    requires room { HasRoom (IsInSpan ranges.now.low ranges.now.high) (gain (group_of group.now)) }
-    ensures ok { IfOk result (λ a. IsGroupAdded (group_of group.now) (IsInSpan ranges.now.low ranges.now.high) net.old net.new from a) }
+    requires room { HasRoom (R.streams ranges.now) (gain (group_of group.now)) }
+    ensures ok { IfOk result (λ a. IsGroupAdded (group_of group.now) (R.streams ranges.now) net.old net.new from a) }
     ensures extends { Extends net.old.cells net.new.cells }
     ensures same_group { net.new.group ≡ net.old.group }
 {
@@ -62,13 +61,13 @@ fn add_down<const N: usize, const D: usize>(
 }
 
 // Adds the nodes of an interpolator of N stages.
-fn add_up<const N: usize, const D: usize>(
+fn add_up<const N: usize, const D: usize, R: Ranges>(
     alloc: Global,
     net: &mut Net,
     from: Stream,
     group: &PlanGroup,
     factor: u32,
-    ranges: &SpanRanges,
+    ranges: &R,
 ) -> Result<Added, Memory>
     requires is { group_of group.now ≡ UpCic factor N D }
     requires within { from.node.place < length net.old.cells }
@@ -77,8 +76,8 @@ fn add_up<const N: usize, const D: usize>(
     requires early { from.offset < 2 ^ 31 }
     requires limits { IsGroup (group_of group.now) }
     requires takes { IsTaking (group_of group.now) from.period }
-    requires room { HasRoom (IsInSpan ranges.now.low ranges.now.high) (gain (group_of group.now)) }
-    ensures ok { IfOk result (λ a. IsGroupAdded (group_of group.now) (IsInSpan ranges.now.low ranges.now.high) net.old net.new from a) }
+    requires room { HasRoom (R.streams ranges.now) (gain (group_of group.now)) }
+    ensures ok { IfOk result (λ a. IsGroupAdded (group_of group.now) (R.streams ranges.now) net.old net.new from a) }
     ensures extends { Extends net.old.cells net.new.cells }
     ensures same_group { net.new.group ≡ net.old.group }
 {
@@ -88,7 +87,7 @@ fn add_up<const N: usize, const D: usize>(
 }
 
 /// Adds the nodes of a group that is a decimator.
-pub(crate) fn down_group(
+pub(crate) fn down_group<R: Ranges>(
     alloc: Global,
     net: &mut Net,
     from: Stream,
@@ -96,7 +95,7 @@ pub(crate) fn down_group(
     factor: u32,
     stages: u32,
     delay: u32,
-    ranges: &SpanRanges,
+    ranges: &R,
 ) -> Result<Added, Memory>
     requires is { group_of group.now ≡ DownCic factor stages delay }
     requires within { from.node.place < length net.old.cells }
@@ -105,8 +104,8 @@ pub(crate) fn down_group(
     requires early { from.offset < 2 ^ 31 }
     requires limits { IsGroup (group_of group.now) }
     requires takes { IsTaking (group_of group.now) from.period }
-    requires room { HasRoom (IsInSpan ranges.now.low ranges.now.high) (gain (group_of group.now)) }
-    ensures ok { IfOk result (λ a. IsGroupAdded (group_of group.now) (IsInSpan ranges.now.low ranges.now.high) net.old net.new from a) }
+    requires room { HasRoom (R.streams ranges.now) (gain (group_of group.now)) }
+    ensures ok { IfOk result (λ a. IsGroupAdded (group_of group.now) (R.streams ranges.now) net.old net.new from a) }
     ensures extends { Extends net.old.cells net.new.cells }
     ensures same_group { net.new.group ≡ net.old.group }
 {
@@ -118,7 +117,7 @@ pub(crate) fn down_group(
 }
 
 /// Adds the nodes of a group that is an interpolator.
-pub(crate) fn up_group(
+pub(crate) fn up_group<R: Ranges>(
     alloc: Global,
     net: &mut Net,
     from: Stream,
@@ -126,7 +125,7 @@ pub(crate) fn up_group(
     factor: u32,
     stages: u32,
     delay: u32,
-    ranges: &SpanRanges,
+    ranges: &R,
 ) -> Result<Added, Memory>
     requires is { group_of group.now ≡ UpCic factor stages delay }
     requires within { from.node.place < length net.old.cells }
@@ -135,8 +134,8 @@ pub(crate) fn up_group(
     requires early { from.offset < 2 ^ 31 }
     requires limits { IsGroup (group_of group.now) }
     requires takes { IsTaking (group_of group.now) from.period }
-    requires room { HasRoom (IsInSpan ranges.now.low ranges.now.high) (gain (group_of group.now)) }
-    ensures ok { IfOk result (λ a. IsGroupAdded (group_of group.now) (IsInSpan ranges.now.low ranges.now.high) net.old net.new from a) }
+    requires room { HasRoom (R.streams ranges.now) (gain (group_of group.now)) }
+    ensures ok { IfOk result (λ a. IsGroupAdded (group_of group.now) (R.streams ranges.now) net.old net.new from a) }
     ensures extends { Extends net.old.cells net.new.cells }
     ensures same_group { net.new.group ≡ net.old.group }
 {

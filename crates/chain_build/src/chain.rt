@@ -2,17 +2,22 @@
 
 ghost use Rattle.std.specs.Prelude.{◌≡◌, pos, ◌≤ℤ◌, true, IfOk};
 ghost use Rattle.mr_values.specs.Timing.{groups};
-ghost use Rattle.mr_values.specs.Value.{size};
+ghost use Rattle.mr_values.specs.Value.{size, chain};
 ghost use Rattle.plan_check.specs.Accepted.{IsAccepted, AreFacts};
-ghost use Rattle.chain_build.specs.Built.{are_built, is_built, is_parallel};
+ghost use Rattle.stage_law.specs.Streams.{HasRoom};
+ghost use Rattle.width_extreme.specs.Prefix.{IsStream};
+ghost use Rattle.chain_build.specs.Built.{are_built, is_built, is_parallel, has_rounding};
 ghost use Rattle.chain_build.specs.ChainNet.{IsChainNet};
 ghost use Rattle.chain_build.specs.GroupCosts.{HasCosts};
+ghost use Rattle.chain_build.specs.Linear.{output_range};
 
 use crate::groups::{GroupCost, add_groups};
 use crate::output::add_outputs;
+use crate::prefix::{prefix_ranges, width_of};
 use mr_values::{Element, Form, Memory, Plan};
 use net_graph::{Net, Netlist, Node, Stream};
 use plan_check::Facts;
+use stage_law::{Class, Range, Ranges, WeightedSum};
 use std::alloc::Global;
 
 /// A net with its output register, the node that is shown as `out_valid`, and the cost of each group.
@@ -52,15 +57,6 @@ pub fn can_build(plan: &Plan) -> bool
     plan.elements.as_slice().iter().all(can_add)
 }
 
-// The bits of a sample.
-fn width_of(plan: &Plan) -> u8
-    requires least { pos 1 ≤ℤ plan.now.width }
-    requires most { plan.now.width ≤ℤ pos 64 }
-    ensures { result ≡ size plan.now.width }
-{
-    plan.width as u8
-}
-
 // The ticks of a sample.
 fn ticks_of(plan: &Plan) -> u64
     requires least { pos 1 ≤ℤ plan.now.ticks }
@@ -68,6 +64,34 @@ fn ticks_of(plan: &Plan) -> u64
     ensures { result ≡ size plan.now.ticks }
 {
     plan.ticks as u64
+}
+
+// The range of the chain's values: the exact one where no group rounds, else the span.
+fn output_range(
+    alloc: Global,
+    plan: &Plan,
+    facts: &Facts,
+    rounded: bool,
+) -> Result<Range, Memory>
+    requires accepted { IsAccepted plan.now }
+    requires are_facts { AreFacts (size plan.now.width) (size plan.now.ticks) plan.now.elements facts.now }
+    requires rounded { rounded ≡ has_rounding (groups plan.now.elements) }
+    requires room { HasRoom (IsStream (chain plan.now.elements) (size plan.now.width)) 1 }
+    ensures { IfOk result (λ range. range ≡ output_range (size plan.now.width) (size plan.now.ticks) plan.now.elements) }
+{
+    if rounded {
+        return Ok(Range {
+            lo: facts.end_lo,
+            hi: facts.end_hi,
+        });
+    }
+    let value = WeightedSum::value(alloc, 0)?;
+    let every = Class {
+        modulus: 1,
+        residue: 0,
+    };
+    let ranges = prefix_ranges(alloc, plan, plan.elements.as_slice().len())?;
+    Ok(ranges.range(&value, every))
 }
 
 /// The net of an accepted plan, of which these are the facts. After want of memory there is none.
@@ -88,7 +112,8 @@ pub fn build(alloc: Global, plan: &Plan, facts: &Facts) -> Result<Built, Memory>
         offset: 0,
     };
     let chained = add_groups(alloc, &mut net, from, plan, facts)?;
-    let outputs = add_outputs(alloc, &mut net, chained.stream, facts.end_lo, facts.end_hi)?;
+    let range = output_range(alloc, plan, facts, chained.rounded)?;
+    let outputs = add_outputs(alloc, &mut net, chained.stream, range)?;
     match net.finish() {
         Ok(net) => Ok(Built {
             net,

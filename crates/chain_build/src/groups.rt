@@ -1,8 +1,8 @@
 // The groups of a plan, one after another.
 
-ghost use Rattle.std.specs.Prelude.{◌≡◌, ◌≤◌, ◌<◌, ◌^◌, pos, ◌≤ℤ◌, length, IfOk};
+ghost use Rattle.std.specs.Prelude.{◌≡◌, ◌≤◌, ◌<◌, ◌^◌, pos, ◌≤ℤ◌, length, take, IfOk};
 ghost use Rattle.std.specs.Option.{option_map};
-ghost use Rattle.mr_values.specs.Value.{size};
+ghost use Rattle.mr_values.specs.Value.{size, chain};
 ghost use Rattle.mr_values.specs.Timing.{groups, taps_of};
 ghost use Rattle.net_graph.specs.Grow.{Extends};
 ghost use Rattle.net_graph.specs.WellFormed.{IsBound};
@@ -12,18 +12,21 @@ ghost use Rattle.plan_check.specs.Groups.{group_of, filter_of, IsGroup};
 ghost use Rattle.span_ranges.specs.Span.{IsInSpan};
 ghost use Rattle.stage_law.specs.Realises.{Realises, IsUnused};
 ghost use Rattle.stage_law.specs.Streams.{HasRoom};
-ghost use Rattle.chain_build.specs.Built.{IsBuiltGroup, AreBuiltGroups};
+ghost use Rattle.width_extreme.specs.Prefix.{IsStream};
+ghost use Rattle.chain_build.specs.Built.{IsBuiltGroup, AreBuiltGroups, rounds, has_rounding};
+ghost use Rattle.chain_build.specs.Prefixes.{IsExactPrefix, CanTake, streams_before, elements_before};
 ghost use Rattle.chain_build.specs.Added.{IsTaking, IsGroupAdded, AreNameless, IsChained};
 ghost use Rattle.chain_build.specs.GroupCosts.{AreUngrouped, AreApart, HasCosts};
 
 use crate::cascades::{down_group, up_group};
+use crate::prefix::prefix_ranges;
 use mr_values::{Memory, Plan};
 use net_graph::{Net, Stream};
 use plan_check::{Facts, FirFilter, GroupFacts, PlanGroup, split_group};
 use polyphase_fir::Polyphase;
 use rounding_stage::Rounding;
 use span_ranges::SpanRanges;
-use stage_law::{Cost, Emitted, Kind, Rates, Stage};
+use stage_law::{Cost, Emitted, Kind, Ranges, Rates, Stage};
 use std::alloc::Global;
 
 /// The form of a group as a stage, and what it adds to a net.
@@ -40,28 +43,29 @@ pub(crate) struct Added {
     pub(crate) cost: GroupCost,
 }
 
-/// The stream after all groups, and what each group costs.
+/// The stream after all groups, whether one of them rounds, and what each group costs.
 #[derive(Drop)]
 pub(crate) struct Chained {
     pub(crate) stream: Stream,
+    pub(crate) rounded: bool,
     pub(crate) costs: Vec<GroupCost>,
 }
 
 /// Adds the nodes of a stage.
-pub(crate) fn emit_stage<S: Stage>(
+pub(crate) fn emit_stage<S: Stage, R: Ranges>(
     alloc: Global,
     net: &mut Net,
     from: Stream,
     stage: &S,
-    ranges: &SpanRanges,
+    ranges: &R,
 ) -> Result<Added, Memory>
     requires within { from.node.place < length net.old.cells }
     requires group { 1 ≤ net.old.group }
     requires unused { IsUnused net.old.cells net.old.group }
     requires early { from.offset < 2 ^ 31 }
     requires takes { S.takes stage.now from.period }
-    requires room { HasRoom (IsInSpan ranges.now.low ranges.now.high) (S.facts stage.now).gain }
-    ensures realises { IfOk result (λ a. Realises (S.facts stage.now) (IsInSpan ranges.now.low ranges.now.high) net.old net.new from a.emitted) }
+    requires room { HasRoom (R.streams ranges.now) (S.facts stage.now).gain }
+    ensures realises { IfOk result (λ a. Realises (S.facts stage.now) (R.streams ranges.now) net.old net.new from a.emitted) }
     ensures kind { IfOk result (λ a. a.cost.kind ≡ (S.facts stage.now).kind) }
     ensures adders { IfOk result (λ a. a.cost.cost.adders ≡ (S.facts stage.now).adders) }
     ensures windows { IfOk result (λ a. a.cost.cost.windows ≡ (S.facts stage.now).windows) }
@@ -88,12 +92,12 @@ fn filter_taps<'a>(filter: &Option<FirFilter<'a>>) -> &'a [i64]
 }
 
 // Adds the nodes of a group.
-fn add_group(
+fn add_group<R: Ranges>(
     alloc: Global,
     net: &mut Net,
     from: Stream,
     group: &PlanGroup,
-    ranges: &SpanRanges,
+    ranges: &R,
 ) -> Result<Added, Memory>
     requires within { from.node.place < length net.old.cells }
     requires group { 1 ≤ net.old.group }
@@ -102,8 +106,8 @@ fn add_group(
     requires built { IsBuiltGroup (group_of group.now) }
     requires limits { IsGroup (group_of group.now) }
     requires takes { IsTaking (group_of group.now) from.period }
-    requires room { HasRoom (IsInSpan ranges.now.low ranges.now.high) (gain (group_of group.now)) }
-    ensures ok { IfOk result (λ a. IsGroupAdded (group_of group.now) (IsInSpan ranges.now.low ranges.now.high) net.old net.new from a) }
+    requires room { HasRoom (R.streams ranges.now) (gain (group_of group.now)) }
+    ensures ok { IfOk result (λ a. IsGroupAdded (group_of group.now) (R.streams ranges.now) net.old net.new from a) }
     ensures extends { Extends net.old.cells net.new.cells }
     ensures same_group { net.new.group ≡ net.old.group }
 {
@@ -135,7 +139,44 @@ fn add_group(
     }
 }
 
-// The ranges of the streams before a group.
+// Whether the group rounds.
+fn is_rounding(group: &PlanGroup) -> bool
+    ensures { result ≡ rounds (group_of group.now) }
+{
+    match group {
+        PlanGroup::Round { .. } => true,
+        PlanGroup::Fir { .. } | PlanGroup::CicDown { .. } | PlanGroup::CicUp { .. } => false,
+    }
+}
+
+// Adds the nodes of a group whose stream is what so many elements of the plan make of samples.
+fn add_exact(
+    alloc: Global,
+    net: &mut Net,
+    from: Stream,
+    group: &PlanGroup,
+    plan: &Plan,
+    taken: usize,
+) -> Result<Added, Memory>
+    requires within { from.node.place < length net.old.cells }
+    requires group { 1 ≤ net.old.group }
+    requires unused { IsUnused net.old.cells net.old.group }
+    requires early { from.offset < 2 ^ 31 }
+    requires built { IsBuiltGroup (group_of group.now) }
+    requires limits { IsGroup (group_of group.now) }
+    requires takes { IsTaking (group_of group.now) from.period }
+    requires prefix { IsExactPrefix plan.now taken }
+    requires room { HasRoom (IsStream (chain (take taken plan.now.elements)) (size plan.now.width)) (gain (group_of group.now)) }
+    ensures ok { IfOk result (λ a. IsGroupAdded (group_of group.now) (IsStream (chain (take taken plan.now.elements)) (size plan.now.width)) net.old net.new from a) }
+    ensures extends { Extends net.old.cells net.new.cells }
+    ensures same_group { net.new.group ≡ net.old.group }
+{
+    let ranges = prefix_ranges(alloc, plan, taken)?;
+    let added = add_group(alloc, net, from, group, &ranges)?;
+    Ok(added)
+}
+
+// The ranges of the streams within a group's span.
 fn ranges_before(fact: &GroupFacts) -> SpanRanges
     requires below { fact.now.span_lo ≤ℤ pos 0 }
     requires above { pos 0 ≤ℤ fact.now.span_hi }
@@ -143,6 +184,62 @@ fn ranges_before(fact: &GroupFacts) -> SpanRanges
     ensures high { result.high ≡ fact.now.span_hi }
 {
     SpanRanges::new(fact.span_lo, fact.span_hi)
+}
+
+// Adds the nodes of a group whose stream lies in its span.
+fn add_spanned(
+    alloc: Global,
+    net: &mut Net,
+    from: Stream,
+    group: &PlanGroup,
+    fact: &GroupFacts,
+) -> Result<Added, Memory>
+    requires within { from.node.place < length net.old.cells }
+    requires group { 1 ≤ net.old.group }
+    requires unused { IsUnused net.old.cells net.old.group }
+    requires early { from.offset < 2 ^ 31 }
+    requires built { IsBuiltGroup (group_of group.now) }
+    requires limits { IsGroup (group_of group.now) }
+    requires takes { IsTaking (group_of group.now) from.period }
+    requires below { fact.now.span_lo ≤ℤ pos 0 }
+    requires above { pos 0 ≤ℤ fact.now.span_hi }
+    requires room { HasRoom (IsInSpan fact.now.span_lo fact.now.span_hi) (gain (group_of group.now)) }
+    ensures ok { IfOk result (λ a. IsGroupAdded (group_of group.now) (IsInSpan fact.now.span_lo fact.now.span_hi) net.old net.new from a) }
+    ensures extends { Extends net.old.cells net.new.cells }
+    ensures same_group { net.new.group ≡ net.old.group }
+{
+    let ranges = ranges_before(fact);
+    let added = add_group(alloc, net, from, group, &ranges)?;
+    Ok(added)
+}
+
+// Adds the nodes of the next group, before which there was a rounding or not.
+fn add_next(
+    alloc: Global,
+    net: &mut Net,
+    from: Stream,
+    group: &PlanGroup,
+    plan: &Plan,
+    fact: &GroupFacts,
+    rounded: bool,
+) -> Result<Added, Memory>
+    requires within { from.node.place < length net.old.cells }
+    requires group { 1 ≤ net.old.group }
+    requires unused { IsUnused net.old.cells net.old.group }
+    requires early { from.offset < 2 ^ 31 }
+    requires built { IsBuiltGroup (group_of group.now) }
+    requires limits { IsGroup (group_of group.now) }
+    requires takes { IsTaking (group_of group.now) from.period }
+    requires can_take { CanTake plan.now fact.now (group_of group.now) rounded }
+    ensures ok { IfOk result (λ a. IsGroupAdded (group_of group.now) (streams_before rounded (size plan.now.width) (elements_before plan.now fact.now) fact.now.span_lo fact.now.span_hi) net.old net.new from a) }
+    ensures extends { Extends net.old.cells net.new.cells }
+    ensures same_group { net.new.group ≡ net.old.group }
+{
+    if rounded {
+        add_spanned(alloc, net, from, group, fact)
+    } else {
+        add_exact(alloc, net, from, group, plan, fact.first as usize - 1)
+    }
 }
 
 /// Adds the nodes of the groups of a plan to a net without names, in net group J for group J.
@@ -163,11 +260,13 @@ pub(crate) fn add_groups(
     requires are_facts { AreFacts (size plan.now.width) (size plan.now.ticks) plan.now.elements facts.now }
     requires built { AreBuiltGroups (groups plan.now.elements) }
     ensures ok { IfOk result (λ c. IsChained (size plan.now.width) (size plan.now.ticks) plan.now.elements net.old net.new from c.stream) }
+    ensures rounded { IfOk result (λ c. c.rounded ≡ has_rounding (groups plan.now.elements)) }
     ensures costs { IfOk result (λ c. AreApart net.new.cells → HasCosts (groups plan.now.elements) c.costs.items net.new.cells) }
 {
     let mut rest = plan.elements.as_slice();
     let mut last = from;
     let mut number = 1;
+    let mut rounded = false;
     let mut costs = Vec::new(alloc);
     net.set_group(1);
     for fact in &facts.groups {
@@ -175,15 +274,16 @@ pub(crate) fn add_groups(
             unreachable!()
         };
         net.set_group(number);
-        let ranges = ranges_before(fact);
-        let added = add_group(alloc, net, last, &group, &ranges)?;
+        let added = add_next(alloc, net, last, &group, plan, fact, rounded)?;
         last = added.emitted.stream;
         costs.push(added.cost)?;
+        rounded |= is_rounding(&group);
         rest = others;
         number += 1;
     }
     Ok(Chained {
         stream: last,
+        rounded,
         costs,
     })
 }

@@ -5,6 +5,7 @@ mod cascades;
 mod chain;
 mod groups;
 mod output;
+mod prefix;
 
 pub use chain::{Built, build, can_build};
 pub use groups::GroupCost;

@@ -1,6 +1,7 @@
 // The outputs of a net.
 
 ghost use Rattle.std.specs.Prelude.{◌≡◌, ◌+◌, ◌≤◌, ◌<◌, ◌^◌, length, IfOk};
+ghost use Rattle.mr_values.specs.Width.{IsLeastWidth};
 ghost use Rattle.net_graph.specs.WellFormed.{IsWidth, IsFree};
 ghost use Rattle.net_graph.specs.declared.name.NameKind.TheVariants.{Output, Valid};
 ghost use Rattle.net_graph.specs.Grow.{Extends};
@@ -11,6 +12,7 @@ ghost use Rattle.chain_build.specs.Output.{IsCutTo, AddsOutputs};
 use mr_values::{Memory, least_width};
 use net_graph::{Name, NameKind, Net, Node, Stream};
 use pipeline_balance::{counter, gate_of, taking_register};
+use stage_law::Range;
 use std::alloc::Global;
 
 /// The output register, and the node that is shown as `out_valid`.
@@ -36,14 +38,20 @@ fn cut_to(net: &mut Net, node: Node, width: u8) -> Result<Node, Memory>
     Ok(to)
 }
 
-/// Adds the output register, which takes the stream at its ticks and is as wide as the numbers from `low` to `high` need, and the bit
-/// that is set where the register has a new value.
+// The least number of bits that holds the range.
+fn width_of(range: Range) -> u8
+    ensures { IsLeastWidth range.lo range.hi result }
+{
+    least_width(range.lo, range.hi)
+}
+
+/// Adds the output register, which takes the stream at its ticks and is as wide as the range needs, and the bit that is set where the
+/// register has a new value.
 pub(crate) fn add_outputs(
     alloc: Global,
     net: &mut Net,
     from: Stream,
-    low: i128,
-    high: i128,
+    range: Range,
 ) -> Result<Outputs, Memory>
     requires within { from.node.place < length net.old.cells }
     requires data_group { 1 ≤ net.old.group }
@@ -51,9 +59,9 @@ pub(crate) fn add_outputs(
     requires early { from.offset < 2 ^ 31 }
     requires free_output { IsFree net.old.cells (name_of 0 Output 0) }
     requires free_valid { IsFree net.old.cells (name_of 0 Valid 0) }
-    ensures ok { IfOk result (AddsOutputs low high net.old net.new from) }
+    ensures ok { IfOk result (AddsOutputs range.lo range.hi net.old net.new from) }
 {
-    let width = least_width(low, high);
+    let width = width_of(range);
     let node = cut_to(net, from.node, width)?;
     let end = Stream {
         node,

@@ -1,7 +1,4 @@
-use Rattle.std.proofs.Common.{◌≤◌, subst, sym, List, ℕ, ℤ, rules}
-use Rattle.std.proofs.lemmas.Int.{to_z-of_z}
-use mir.Syntax.{w128}
-use mir.Val.{SFits}
+use Rattle.std.proofs.Common.{◌≤◌, subst, sym, List, ℕ}
 use Rattle.mr_values.specs.Timing.{groups, last_stream}
 use Rattle.mr_values.specs.Value.{size}
 use Rattle.net_graph.specs.declared.cell.Cell.{Cell}
@@ -15,11 +12,22 @@ use Rattle.chain_build.specs.ChainNet.{IsChainNet}
 use Rattle.chain_build.specs.GroupCosts.{HasCosts}
 use Rattle.chain_build.specs.Output.{AddsOutputs}
 use Rattle.chain_build.proofs.ChainLemmas.{empty, built-groups, bound3, chain_net, chain_costs}
+use Rattle.plan_laws.proofs.Passes.{passes_of}
+use Rattle.stage_law.specs.declared.ranges.Range.{Range}
+use Rattle.chain_build.proofs.ExactPrefixes.{unrounded-linear}
+use Rattle.chain_build.proofs.OutputRange.{room-chain}
 use Rattle.chain_build.proofs.SoFar.{some_width}
 use Rattle.chain_build.proofs.chain.build.Goals as goal
 
 pub add_groups-requires-clause-built : goal.add_groups-requires-clause-built
 add_groups-requires-clause-built c = built-groups c.args.plan.now.elements c.requires.built
+
+pub output_range-requires-clause-room : goal.output_range-requires-clause-room
+output_range-requires-clause-room c =
+    let es = c.args.plan.now.elements in
+    let last = last_stream (size c.args.plan.now.width) (size c.args.plan.now.ticks) es in
+    let chained = c.in_ok-chained.ensures.ok in
+    room-chain (size c.args.plan.now.width) (size c.args.plan.now.ticks) es last.low last.high chained.low_small chained.high_small chained.span
 
 pub unreachable-requires : goal.unreachable-requires
 unreachable-requires c =
@@ -29,12 +37,8 @@ unreachable-requires c =
     let wide : 1 ≤ W = some_width c.args.plan.now c.requires.accepted in
     let first : Adds empty c.input.new.self c.in_ok-node.node W Input = subst (λ (w : ℕ). Adds empty c.input.new.self c.in_ok-node.node w Input) c.width_of.ensures (subst (λ (n : NetView). Adds n c.input.new.self c.in_ok-node.node c.width_of.result Input) c.new-net.ensures c.in_ok-node.ensures.ok) in
     let chained = subst (λ (p : ℕ). IsChained W T es c.input.new.self c.add_groups.new.net (record { node = c.in_ok-node.node; period = p; offset = 0 }) c.in_ok-chained.chained.stream) c.ticks_of.ensures c.in_ok-chained.ensures.ok in
-    let low : SFits w128 c.args.facts.now.end_lo = search rules in
-    let high : SFits w128 c.args.facts.now.end_hi = search rules in
-    let added : AddsOutputs c.args.facts.now.end_lo c.args.facts.now.end_hi c.add_groups.new.net c.add_outputs.new.net c.in_ok-chained.chained.stream c.in_ok-outputs.outputs = simp to_z-of_z at c.in_ok-outputs.ensures.ok in
-    let outs = subst (λ (z : ℤ). AddsOutputs (last_stream W T es).low z c.add_groups.new.net c.add_outputs.new.net c.in_ok-chained.chained.stream c.in_ok-outputs.outputs) c.requires.are_facts.high_is
-    (subst (λ (z : ℤ). AddsOutputs z c.args.facts.now.end_hi c.add_groups.new.net c.add_outputs.new.net c.in_ok-chained.chained.stream c.in_ok-outputs.outputs) c.requires.are_facts.low_is added) in
-    IsBound-finishes _ c.in-Err.field-0 (bound3 W T es wide first chained outs) c.in-Err.ensures.err
+    let outs = subst (λ (r : Range). AddsOutputs r.lo r.hi c.add_groups.new.net c.add_outputs.new.net c.in_ok-chained.chained.stream c.in_ok-outputs.outputs) c.in_ok-range.ensures c.in_ok-outputs.ensures.ok in
+    IsBound-finishes _ c.in-Err.field-0 (bound3 W T es wide first chained (unrounded-linear es (passes_of c.args.plan.now c.requires.accepted).limits.elements) outs) c.in-Err.ensures.err
 
 pub returns : goal.returns
 returns c =
@@ -44,13 +48,10 @@ returns c =
     let wide : 1 ≤ W = some_width c.args.plan.now c.requires.accepted in
     let first : Adds empty c.input.new.self c.in_ok-node.node W Input = subst (λ (w : ℕ). Adds empty c.input.new.self c.in_ok-node.node w Input) c.width_of.ensures (subst (λ (n : NetView). Adds n c.input.new.self c.in_ok-node.node c.width_of.result Input) c.new-net.ensures c.in_ok-node.ensures.ok) in
     let chained = subst (λ (p : ℕ). IsChained W T es c.input.new.self c.add_groups.new.net (record { node = c.in_ok-node.node; period = p; offset = 0 }) c.in_ok-chained.chained.stream) c.ticks_of.ensures c.in_ok-chained.ensures.ok in
-    let low : SFits w128 c.args.facts.now.end_lo = search rules in
-    let high : SFits w128 c.args.facts.now.end_hi = search rules in
-    let added : AddsOutputs c.args.facts.now.end_lo c.args.facts.now.end_hi c.add_groups.new.net c.add_outputs.new.net c.in_ok-chained.chained.stream c.in_ok-outputs.outputs = simp to_z-of_z at c.in_ok-outputs.ensures.ok in
-    let outs = subst (λ (z : ℤ). AddsOutputs (last_stream W T es).low z c.add_groups.new.net c.add_outputs.new.net c.in_ok-chained.chained.stream c.in_ok-outputs.outputs) c.requires.are_facts.high_is
-    (subst (λ (z : ℤ). AddsOutputs z c.args.facts.now.end_hi c.add_groups.new.net c.add_outputs.new.net c.in_ok-chained.chained.stream c.in_ok-outputs.outputs) c.requires.are_facts.low_is added) in
+    let outs = subst (λ (r : Range). AddsOutputs r.lo r.hi c.add_groups.new.net c.add_outputs.new.net c.in_ok-chained.chained.stream c.in_ok-outputs.outputs) c.in_ok-range.ensures c.in_ok-outputs.ensures.ok in
+    let linear = unrounded-linear es (passes_of c.args.plan.now c.requires.accepted).limits.elements in
     let formed = (subst (λ (cells : List Cell). IsNetlist cells) c.in-Ok.ensures.ok c.in-Ok.ensures.netlist).well_formed in
     record {
-      chain = subst (λ (cells : List Cell). IsChainNet W T es cells c.in_ok-outputs.outputs.out_q c.in_ok-outputs.outputs.out_valid) (sym c.in-Ok.ensures.ok) (chain_net W T es wide first chained outs formed);
-      costs = subst (λ (cells : List Cell). HasCosts (groups es) c.in_ok-chained.chained.costs.items cells) (sym c.in-Ok.ensures.ok) (chain_costs W T es wide first chained outs formed c.in_ok-chained.ensures.costs);
+      chain = subst (λ (cells : List Cell). IsChainNet W T es cells c.in_ok-outputs.outputs.out_q c.in_ok-outputs.outputs.out_valid) (sym c.in-Ok.ensures.ok) (chain_net W T es wide first chained linear outs formed);
+      costs = subst (λ (cells : List Cell). HasCosts (groups es) c.in_ok-chained.chained.costs.items cells) (sym c.in-Ok.ensures.ok) (chain_costs W T es wide first chained linear outs formed c.in_ok-chained.ensures.costs);
     }

@@ -1,12 +1,13 @@
-use Rattle.std.proofs.Common.{drop}
+use Rattle.std.proofs.Common.{◌≡◌, drop, List}
 use Rattle.mr_values.specs.Value.{size}
-use Rattle.mr_values.specs.Timing.{groups}
+use Rattle.mr_values.specs.Timing.{Group, groups}
 use Rattle.chain_build.proofs.SoFar.{SoFar}
+use Rattle.chain_build.specs.Built.{has_rounding}
 use Rattle.chain_build.proofs.CostsSoFar.{CostsSoFar}
 use Rattle.chain_build.proofs.groups.add_groups.Given as goal
 
 -- the groups before are added, and those that are left pass the tests
 abbrev pub invariant-loop-fact : goal.invariant-loop-fact
 invariant-loop-fact l =
-    SoFar (size l.plan.width) (size l.plan.ticks) l.plan.elements l.fn.net l.net l.fn.from l.last l.rest (drop l.fact-index l.facts.groups.items) l.number
+    ((front : List Group) × SoFar (size l.plan.width) (size l.plan.ticks) l.plan.elements l.fn.net l.net l.fn.from l.last l.rest (drop l.fact-index l.facts.groups.items) l.number front × (l.rounded ≡ has_rounding front))
     × CostsSoFar (groups l.plan.elements) l.net.cells (groups l.rest) l.costs.items l.number

@@ -1,4 +1,3 @@
-use Rattle.std.proofs.lemmas.Int.{to_z-of_z}
 use Rattle.chain_build.proofs.OutputLemmas.{output_free, valid_free, counter_nameless, AddsOutputs-named}
 use Rattle.chain_build.proofs.output.add_outputs.Goals as goal
 
@@ -13,7 +12,4 @@ name_node-requires-clause-free c = valid_free {from = c.args.from} c.in_ok-node.
 
 pub returns : goal.returns
 returns c =
-    let l = c.ranges.low in
-    let h = c.ranges.high in
-    let least = simp to_z-of_z at c.least_width-width.ensures in
-    record { ok = AddsOutputs-named {from = c.args.from} c.in_ok-node.ensures.ok c.in_ok-gate.ensures.ok c.in_ok-out_q.ensures.ok c.in_ok-out_valid.ensures.ok c.args.low c.args.high c.requires.positive least c.name_node.ensures }
+    record { ok = AddsOutputs-named {from = c.args.from} c.in_ok-node.ensures.ok c.in_ok-gate.ensures.ok c.in_ok-out_q.ensures.ok c.in_ok-out_valid.ensures.ok c.args.range.lo c.args.range.hi c.requires.positive c.width_of-width.ensures c.name_node.ensures }
