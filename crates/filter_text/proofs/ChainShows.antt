@@ -1,12 +1,12 @@
 -- The module of a plan's net shows the chain.
-use Rattle.std.proofs.Common.{◌≡◌, ℕ, Bool, cond, zero, suc, ◌+◌, ◌-◌, ◌*◌, ◌<◌, ◌≤◌, ◌^◌, true, false, List, [], ◌∷◌, map, get_or, refl, sym, ◌∙◌, ap, subst, arith, ℤ, pos, negsuc, ◌-ℤ◌, ltb}
-use Rattle.std.specs.Prelude.{slice_index}
-use Rattle.std.proofs.lemmas.Int.{ints}
+use Rattle.std.proofs.Common.{◌≡◌, ℕ, Bool, cond, zero, suc, ◌+◌, ◌-◌, ◌*◌, ◌<◌, ◌≤◌, ◌^◌, true, false, List, [], ◌∷◌, map, get_or, refl, sym, ◌∙◌, ap, subst, arith, ℤ, pos, ◌-ℤ◌, ltb}
+use Rattle.std.specs.Prelude.{All, slice_index}
+use Rattle.std.proofs.lemmas.List.{get_or_default}
 use Rattle.std.proofs.lemmas.Nat.{pow_pos}
 use Rattle.mr_values.specs.declared.plan.Element.{Element}
 use Rattle.mr_values.specs.Width.{FitsWidth, signed}
 use Rattle.mr_values.specs.Sequence.{samples, phase}
-use Rattle.mr_values.specs.Timing.{input, last_stream, latency}
+use Rattle.mr_values.specs.Timing.{last_stream, latency}
 use Rattle.mr_values.specs.Value.{val}
 use Rattle.mr_values.proofs.WidthLemmas.{signed_is}
 use Rattle.net_graph.specs.declared.cell.Cell.{Cell}
@@ -15,8 +15,6 @@ use Rattle.net_graph.specs.Cut.{cut_all}
 use Rattle.net_graph.proofs.CutLemmas.{IsCut-all}
 use Rattle.net_graph.specs.Run.{IsRun, Values as Worth}
 use Rattle.net_graph.proofs.RunLemmas.{some_run}
-use Rattle.plan_laws.specs.Laws.{IsBetween}
-use Rattle.span_ranges.specs.Span.{IsInSpan}
 use Rattle.verilog_tree.specs.Meaning.{Values}
 use Rattle.verilog_tree.specs.Shown.{Cycle, EachFits}
 use Rattle.verilog_tree.specs.Tree.{Design}
@@ -54,7 +52,7 @@ phase-item factor (suc r) (x ∷ xs) k some =
     phase-item factor r xs k some ∙ ap (λ (n : ℕ). get_or (x ∷ xs) n (pos 0)) next
 
 -- a pattern of 0 is the number 0
-signed_zero : (width : ℕ) → signed width 0 ≡ pos 0
+pub signed_zero : (width : ℕ) → signed width 0 ≡ pos 0
 unfolding signed
 signed_zero width = ap (λ (b : Bool). cond b (pos 0) (pos 0 -ℤ pos (2 ^ width))) (below (2 ^ (width - 1)) (pow_pos (width - 1)))
   where
@@ -66,19 +64,8 @@ read_samples width [] k = sym (signed_zero width)
 read_samples width (x ∷ xs) zero = refl
 read_samples width (x ∷ xs) (suc k) = read_samples width xs k
 
-between-sample : (width ticks : ℕ) (z : ℤ) → FitsWidth width z → IsBetween (input width ticks).low (input width ticks).high z
-between-sample width ticks z fits =
-    let low = fits.low in
-    let high = fits.high in
-    record { least = low; greatest = omega (arith, ints, pow_pos (width - 1)) }
-
-between-none : (width ticks : ℕ) → IsBetween (input width ticks).low (input width ticks).high (pos 0)
-between-none width ticks = let some = pow_pos (width - 1) in record { least = omega (arith, ints); greatest = omega (arith, ints) }
-
--- ---- the whole
-
-module _ {width ticks : ℕ} {elements : List Element} {cells : List Cell} {out_q out_valid : Node} (wide : 1 ≤ width) (some : 1 ≤ ticks) (positive : 1 ≤ (last_stream width ticks elements).period) (net : IsChainNet width ticks elements cells out_q out_valid)
-    (shows : ShowsAs cells) where
+-- the samples of a run of the module are those of the net
+module _ (width ticks : ℕ) (some : 1 ≤ ticks) where
   pub has_samples : (after : List Cycle) → HasSamples ticks (samples_of width after) (samples (samples_in width ticks after))
   has_samples after k =
       let none_more : 0 + k * ticks ≡ k * ticks = omega arith in
@@ -86,13 +73,13 @@ module _ {width ticks : ℕ} {elements : List Element} {cells : List Cell} {out_
       ∙ ap (λ (n : ℕ). get_or (map (signed width) (tick_data after)) n (pos 0)) none_more
       ∙ read_samples width (tick_data after) (k * ticks))
 
-  pub in_span : (after : List Cycle) → EachFits width after → IsInSpan (input width ticks).low (input width ticks).high (samples (samples_in width ticks after))
-  in_span after fit = record { causal = λ n. refl; within = by }
-    where
-      by : (k : ℤ) → IsBetween (input width ticks).low (input width ticks).high (samples (samples_in width ticks after) k)
-      by (pos k) = subst (IsBetween (input width ticks).low (input width ticks).high) (has_samples after k) (between-sample width ticks _ (signed_is width (slice_index (tick_data after) (k * ticks)) wide (data_fits width after fit (k * ticks))).0)
-      by (negsuc k) = between-none width ticks
+  pub samples_fit : 1 ≤ width → (after : List Cycle) → EachFits width after → All (FitsWidth width) (samples_in width ticks after)
+  samples_fit wide after fit k d below = subst (FitsWidth width) (has_samples after k ∙ get_or_default (samples_in width ticks after) k (pos 0) d below) (signed_is width (slice_index (tick_data after) (k * ticks)) wide (data_fits width after fit (k * ticks))).0
 
+-- ---- the whole
+
+module _ {width ticks : ℕ} {elements : List Element} {cells : List Cell} {out_q out_valid : Node} (wide : 1 ≤ width) (some : 1 ≤ ticks) (positive : 1 ≤ (last_stream width ticks elements).period) (net : IsChainNet width ticks elements cells out_q out_valid)
+    (shows : ShowsAs cells) where
   outputs_are : (after : List Cycle) → EachFits width after → (worth : Worth) → IsRun cut_all cells (samples_of width after) worth
       → shown_from worth (valid_place cells) (output_place cells) 0 (ticks_in after) ≡ outputs_within (latency width ticks elements) (last_stream width ticks elements).period (λ n. val elements (samples_in width ticks after) (pos n)) (ticks_in after)
   outputs_are after fit worth run =
@@ -101,7 +88,7 @@ module _ {width ticks : ℕ} {elements : List Element} {cells : List Cell} {out_
       ∙ ap (λ (o : ℕ). shown_from worth out_valid.place o 0 (ticks_in after)) (output_is net)
       ∙ all_outputs worth out_valid.place out_q.place (latency width ticks elements) (last_stream width ticks elements).period (λ n. val elements (samples_in width ticks after) (pos n)) positive
       (net.valid.sets cut_all IsCut-all inputs worth run) (net.valid.clears cut_all IsCut-all inputs worth run)
-      (net.values inputs worth (samples (samples_in width ticks after)) (in_span after fit) (has_samples after) run) (ticks_in after)
+      (net.values inputs worth (samples_in width ticks after) (samples_fit width ticks some wide after fit) (has_samples width ticks some after) run) (ticks_in after)
 
   -- a module that is the written one but for places shows the chain
   module _ (d : Design) (same : IsSameButPlaces d (written_module cells)) where

@@ -99,7 +99,7 @@ few_filter taps form (DownCic factor stages delay ∷ gs) = omega arith
 few_filter taps form (UpCic factor stages delay ∷ gs) = omega arith
 few_filter taps form (Rounding shift mode ∷ gs) = omega arith
 
-few_groups : (es : List Element) → length (groups es) ≤ length es
+pub few_groups : (es : List Element) → length (groups es) ≤ length es
 few_groups [] = omega arith
 few_groups (Up factor ∷ es) = omega (arith, few_up (size factor) (groups es), few_groups es)
 few_groups (Down factor ∷ es) = omega (arith, few_groups es)

@@ -9,3 +9,10 @@ pub mod UncutPlaces
 pub mod UncutOutput
 pub mod DepthText
 pub mod CountedText
+pub mod NodeNames
+pub mod RegisterNumbers
+pub mod RegisterGroups
+pub mod RegistersText
+pub mod SumExtreme
+pub mod LeastText
+pub mod ChainRegisters

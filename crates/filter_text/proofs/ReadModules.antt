@@ -25,11 +25,13 @@ running cells netlist can d same =
     let its = passing cells netlist can d same in
     settling_runs d (exactly_one_settling d (passing_driven d its) (loop_free d its.free))
 
+-- modules that are the same but for places have outputs of one width
+pub same_output : (d e : Design) → IsSameButPlaces d e → (shapes_of d).width (ports_of d).out_data ≡ (shapes_of e).width (ports_of e).out_data
+same_output d e same = ap (λ (s : Shapes). s.width (ports_of d).out_data) (same_shapes d e same) ∙ ap (λ (p : Ports). (shapes_of e).width p.out_data) (same_ports d e same)
+
 -- its output is as wide as `out_q`
 pub output_width : (cells : List Cell) (d : Design) → IsSameButPlaces d (written_module cells) → (shapes_of d).width (ports_of d).out_data ≡ (cell_at cells (output_place cells)).width
-output_width cells d same =
-    ap (λ (s : Shapes). s.width (ports_of d).out_data) (same_shapes d (written_module cells) same)
-    ∙ ap (λ (p : Ports). (shapes_of (written_module cells)).width p.out_data) (same_ports d (written_module cells) same)
+output_width cells d same = same_output d (written_module cells) same
 
 -- its input is as wide as the net's
 pub input_port : (cells : List Cell) (d : Design) → IsSameButPlaces d (written_module cells) → (shapes_of d).width (ports_of d).in_data ≡ (cell_at cells (input_place cells)).width

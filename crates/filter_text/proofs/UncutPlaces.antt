@@ -25,11 +25,11 @@ abbrev after : Numbers → Shapes → List Action → Numbers
 after numbers shapes blocks register = unwrap_or (whole_given_by shapes numbers blocks register) (numbers register)
 
 module _ (d e : Design) (same : IsSameButPlaces d e) where
-  same_kind : (n : ℕ) → kind_of d n ≡ kind_of e n
+  pub same_kind : (n : ℕ) → kind_of d n ≡ kind_of e n
   same_kind n =
       sym (unplaced_kind d.signals n) ∙ ap (λ (ss : List Signal). option_map (λ (s : Signal). s.kind) (declaration_in ss n)) same.same_signals ∙ unplaced_kind e.signals n
 
-  same_text : (n : ℕ) → text_of d n ≡ text_of e n
+  pub same_text : (n : ℕ) → text_of d n ≡ text_of e n
   same_text n = rw (same.same_names) refl
 
   pub same_number : (values : Values) (n : ℕ) → number_at d values n ≡ number_at e values n

@@ -1,7 +1,7 @@
 -- What the text of a plan has to show: each value of the chain at its tick, and nothing at any other tick.
 use Rattle.std.specs.Prelude.{◌≡◌, ℕ, zero, suc, ◌+◌, ◌-◌, ◌*◌, true, List, [], ◌∷◌, ◌++◌, length, map, take, drop, codes, Some, slice_get, ℤ, pos}
 use Rattle.mr_values.specs.Width.{signed, IsLeastWidth}
-use Rattle.mr_values.specs.Timing.{Group, ceil_div, groups, last_stream}
+use Rattle.mr_values.specs.Timing.{Group, ceil_div, groups}
 use Rattle.mr_values.specs.Sequence.{phase}
 use Rattle.mr_values.specs.Value.{val}
 use Rattle.mr_values.specs.declared.plan.Element.{Element}
@@ -18,6 +18,7 @@ use Rattle.verilog_text.specs.Reading.{Reads}
 use Rattle.net_module.specs.Steps.{HasNoReset, tick_data, ticks_in, pair_of}
 use Rattle.chain_build.specs.Added.{HasFacts}
 use Rattle.chain_build.specs.Built.{ArePlainGroups}
+use Rattle.chain_build.specs.Linear.{output_range}
 use Rattle.stage_law.specs.Facts.{StageFacts}
 
 -- output n stands at the tick latency + n * period: so many outputs from one on, each with its tick
@@ -86,14 +87,14 @@ abbrev pub AreCounted : ℕ → List Group → Design → Type 0
 AreCounted number [] d = Unit {0}
 AreCounted number (g ∷ gs) d = IsCounted g number d × AreCounted (number + 1) gs d
 
--- the module passes every check, from any content it runs over any cycles, cut and uncut, its output has the least width for the span of
--- the last stream, it shows the chain, and its groups cost what they cost as stages, with at most one adder between two registers; where
+-- the module passes every check, from any content it runs over any cycles, cut and uncut, its output has the least width for the range
+-- of the chain's values, it shows the chain, and its groups cost what they cost as stages, with at most one adder between two registers; where
 -- no group rounds, its output register is never cut
 pub record IsModuleOf (elements : List Element) (width ticks latency period : ℕ) (design : Design) : Type 0 where
   pub passes : Passes design
   pub runs : HasRuns design
   pub one_uncut : HasOneUncutRun design
-  pub output : IsLeastWidth (last_stream width ticks elements).low (last_stream width ticks elements).high ((shapes_of design).width (ports_of design).out_data)
+  pub output : IsLeastWidth (output_range width ticks elements).lo (output_range width ticks elements).hi ((shapes_of design).width (ports_of design).out_data)
   pub shows : ShowsChain elements width ticks latency period design
   pub uncut : ArePlainGroups (groups elements) → KeepsOutput elements width ticks latency period design
   pub costs : AreCounted 1 (groups elements) design

@@ -4,6 +4,8 @@ use Rattle.mr_values.specs.Timing.{Group, groups}
 use Rattle.mr_values.specs.declared.plan.Element.{Element}
 use Rattle.stage_law.specs.declared.stage.Cost.{Cost}
 use Rattle.verilog_tree.specs.Counted.{Counts, counted}
+use Rattle.verilog_tree.specs.Names.{shapes_of}
+use Rattle.verilog_tree.specs.Shown.{ports_of}
 use Rattle.verilog_tree.specs.Tree.{Design}
 use Rattle.verilog_tree.specs.View.{design_view}
 use Rattle.verilog_text.specs.Grammar.{limits}
@@ -35,9 +37,11 @@ TellCosts number [] (c ∷ costs) d = ⊥
 TellCosts number (g ∷ gs) [] d = ⊥
 TellCosts number (g ∷ gs) (c ∷ costs) d = (c.kind ≡ kind_of g) × TellsCost c.cost (counted d number) × TellCosts (number + 1) gs costs d
 
--- the module is that of the chain, wherever its declarations stand, and is written in order
+-- the module is that of the chain, wherever its declarations stand, and is written in order; so many bits has its output, and these are the
+-- costs of its groups
 pub record IsChainModule (elements : List Element) (width ticks latency period : ℕ) (chain : ChainModule) : Type 0 where
   pub is_module : (d : Design) → IsSameButPlaces d (design_view chain.design) → IsModuleOf elements width ticks latency period d
   pub writable : IsWritable limits (design_view chain.design)
   pub in_order : IsInOrder (design_view chain.design)
+  pub output : (d : Design) → IsSameButPlaces d (design_view chain.design) → chain.output ≡ (shapes_of d).width (ports_of d).out_data
   pub costs : TellCosts 1 (groups elements) chain.costs.items (design_view chain.design)

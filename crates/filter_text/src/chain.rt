@@ -18,10 +18,11 @@ use std::alloc::Global;
 use verilog_tree::Module;
 use verilog_write::text_of;
 
-/// The module of a plan, and what each of its groups costs.
+/// The module of a plan, the bits of its output, and what each of its groups costs.
 #[derive(Drop)]
 pub struct ChainModule {
     pub design: Module,
+    pub output: u8,
     pub costs: Vec<GroupCost>,
 }
 
@@ -38,6 +39,7 @@ pub fn chain_module(alloc: Global, plan: &Plan, facts: &Facts) -> Result<ChainMo
     let design = module_of(alloc, &built.net)?;
     Ok(ChainModule {
         design,
+        output: built.net.width(built.out_q),
         costs: built.costs,
     })
 }

@@ -1,7 +1,9 @@
-use Rattle.std.proofs.Common.{ℕ, subst, sym, ◌∙◌}
+use Rattle.std.proofs.Common.{ℕ, subst, sym, ◌∙◌, ap}
 use Rattle.mr_values.specs.Value.{size}
 use Rattle.mr_values.specs.Width.{IsLeastWidth}
 use Rattle.mr_values.specs.Timing.{groups, last_stream}
+use Rattle.net_graph.specs.declared.cell.Cell.{Cell}
+use Rattle.net_graph.proofs.CellLemmas.{cell_at-is}
 use Rattle.verilog_tree.specs.Tree.{Design}
 use Rattle.verilog_text.specs.Grammar.{limits}
 use Rattle.verilog_text.specs.Shortest.{IsWritable}
@@ -9,6 +11,7 @@ use Rattle.verilog_text.specs.Order.{IsInOrder, IsSameButPlaces}
 use Rattle.net_module.proofs.Outputs.{shows_as}
 use Rattle.net_text.proofs.Writable.{has_text, in_order}
 use Rattle.uncut_runs.proofs.Exists.{passing_uncut}
+use Rattle.chain_build.specs.Linear.{output_range}
 use Rattle.filter_text.specs.Headline.{ShowsChain, KeepsOutput}
 use Rattle.filter_text.specs.Written.{TellCosts}
 use Rattle.filter_text.proofs.ChainLimits.{narrow_plan, wide_plan, some_ticks}
@@ -42,7 +45,7 @@ returns c =
             passes = passing cells net.netlist can d as_written;
             runs = running cells net.netlist can d as_written;
             one_uncut = passing_uncut d (passing cells net.netlist can d as_written);
-            output = subst (IsLeastWidth (last_stream W T es).low (last_stream W T es).high) (sym (output_width cells d as_written ∙ output_wide net)) net.least;
+            output = subst (IsLeastWidth (output_range W T es).lo (output_range W T es).hi) (sym (output_width cells d as_written ∙ output_wide net)) net.least;
             shows = subst (λ (p : ℕ). ShowsChain es W T c.args.facts.now.latency p d) (sym c.requires.are_facts.period_is)
                 (subst (λ (l : ℕ). ShowsChain es W T l (last_stream W T es).period d) (sym c.requires.are_facts.latency_is)
                 (chain_shows (wide_plan c.args.plan.now c.requires.accepted) (some_ticks c.args.plan.now c.requires.accepted) net.positive net (shows_as cells net.netlist can) d as_written));
@@ -54,5 +57,8 @@ returns c =
           };
       writable = subst (λ (d : Design). IsWritable limits d) (sym is) (has_text cells net.netlist can small);
       in_order = subst (λ (d : Design). IsInOrder d) (sym is) (in_order cells net.netlist can);
+      output = λ d same.
+          let as_written = subst (λ (e : Design). IsSameButPlaces d e) is same in
+          c.width.ensures.width ∙ ap (λ (x : Cell). x.width) (cell_at-is cells c.in_ok-built.built.out_q.place net.register.cell net.register.there) ∙ net.register.wide ∙ sym (output_width cells d as_written ∙ output_wide net);
       costs = subst (λ (d : Design). TellCosts 1 (groups es) c.in_ok-built.built.costs.items d) (sym is) (chain_costs es c.in_ok-built.built.costs.items cells few net.netlist small has);
     }
