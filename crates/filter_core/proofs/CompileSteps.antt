@@ -1,10 +1,14 @@
 -- The writes of `compile`.
-use Rattle.std.proofs.Common.{◌≡◌, ℕ, ◌+◌, List, [], ◌∷◌, ◌++◌, map, true, Result, Ok, Err, inl, inr, refl, sym, ap, ◌∙◌, subst}
+use Rattle.std.proofs.Common.{◌≡◌, ℕ, ◌+◌, ℤ, List, [], ◌∷◌, ◌++◌, map, Option, true, Result, Ok, Err, inl, inr, refl, sym, ap, ◌∙◌, subst}
 use Rattle.std.specs.FinMap.{insert}
 use Rattle.filter_text.specs.Written.{TellCosts, IsChainModule, IsTextWritten}
 use Rattle.filter_text.specs.declared.chain.ChainModule.{ChainModule}
-use Rattle.filter_report.specs.Report.{plan_lines, group_line, group_lines, register_line, register_lines, report_text}
+use Rattle.filter_report.specs.Extremes.{told_at}
+use Rattle.filter_report.specs.Report.{plan_lines, group_line, group_lines, register_line, register_lines, report_text, TellsOutput}
 use Rattle.filter_text.proofs.CountedText.{same_counts}
+use Rattle.filter_text.proofs.ReadModules.{same_output}
+use Rattle.verilog_tree.specs.Names.{shapes_of}
+use Rattle.verilog_tree.specs.Shown.{ports_of}
 use Rattle.chain_build.specs.Built.{kind_of}
 use Rattle.mr_values.specs.Timing.{Group, groups}
 use Rattle.verilog_tree.specs.declared.tree.Signal.{Signal}
@@ -36,27 +40,28 @@ bounded_by w t elements facts limits are xs n = rw (are.bound_is, are.shift_is) 
 
 -- ---- the report is that of the module that is read
 
-same_registers : (d e : Design) → IsSameButPlaces d e → (ss : List Signal) → register_lines d (map unplaced ss) ≡ register_lines e ss
-same_registers d e same [] = refl
-same_registers d e same (s ∷ ss) = rw (same.same_names, same_registers d e same ss) refl
+same_registers : (d e : Design) → IsSameButPlaces d e → (extremes : ℕ → Option (ℕ × ℤ)) (ss : List Signal) → register_lines d extremes (map unplaced ss) ≡ register_lines e extremes ss
+same_registers d e same extremes [] = refl
+same_registers d e same extremes (s ∷ ss) = rw (same.same_names, same_registers d e same extremes ss) refl
 
-unplaced_registers : (d : Design) (ss : List Signal) → register_lines d (map unplaced ss) ≡ register_lines d ss
-unplaced_registers d [] = refl
-unplaced_registers d (s ∷ ss) = ap (λ (rest : List ℕ). register_line d s ++ rest) (unplaced_registers d ss)
+unplaced_registers : (d : Design) (extremes : ℕ → Option (ℕ × ℤ)) (ss : List Signal) → register_lines d extremes (map unplaced ss) ≡ register_lines d extremes ss
+unplaced_registers d extremes [] = refl
+unplaced_registers d extremes (s ∷ ss) = ap (λ (rest : List ℕ). register_line d extremes s ++ rest) (unplaced_registers d extremes ss)
 
 same_groups : (d e : Design) → IsSameButPlaces d e → (number : ℕ) (gs : List Group) → group_lines number gs d ≡ group_lines number gs e
 same_groups d e same number [] = refl
 same_groups d e same number (g ∷ gs) = λ i. group_line number (kind_of g) (same_counts d e same number i) ++ same_groups d e same (number + 1) gs i
 
-same_report : (facts : Facts) (gs : List Group) (d e : Design) → IsSameButPlaces d e → report_text facts gs d ≡ report_text facts gs e
-same_report facts gs d e same =
-    ap (λ (lines : List ℕ). plan_lines facts ++ lines ++ register_lines d d.signals) (same_groups d e same 1 gs)
-    ∙ ap (λ (lines : List ℕ). plan_lines facts ++ group_lines 1 gs e ++ lines)
-    (sym (unplaced_registers d d.signals) ∙ ap (register_lines d) same.same_signals ∙ same_registers d e same e.signals)
+same_report : (facts : Facts) (gs : List Group) (d e : Design) → IsSameButPlaces d e → (extremes : ℕ → Option (ℕ × ℤ)) → report_text facts gs d extremes ≡ report_text facts gs e extremes
+same_report facts gs d e same extremes =
+    ap (λ (bits : ℕ). plan_lines facts bits ++ group_lines 1 gs d ++ register_lines d extremes d.signals) (same_output d e same)
+    ∙ ap (λ (lines : List ℕ). plan_lines facts ((shapes_of e).width (ports_of e).out_data) ++ lines ++ register_lines d extremes d.signals) (same_groups d e same 1 gs)
+    ∙ ap (λ (lines : List ℕ). plan_lines facts ((shapes_of e).width (ports_of e).out_data) ++ group_lines 1 gs e ++ lines)
+    (sym (unplaced_registers d extremes d.signals) ∙ ap (register_lines d extremes) same.same_signals ∙ same_registers d e same extremes e.signals)
 
 -- these lines are the report, whatever the groups are of which the costs are told
 pub record IsReportOf (facts : Facts) (chain : ChainModule) (lines : List ℕ) : Type 0 where
-  pub told : (gs : List Group) → TellCosts 1 gs chain.costs.items (design_view chain.design) → lines ≡ report_text facts gs (design_view chain.design)
+  pub told : (gs : List Group) → TellCosts 1 gs chain.costs.items (design_view chain.design) → TellsOutput chain.output (design_view chain.design) → lines ≡ report_text facts gs (design_view chain.design) (told_at [])
 
 -- a text and a report of a plan that is built
 pub outputs_of : (plan : List ℕ) (files : Files) (text lines : List ℕ) (accepted : AcceptedPlan) → IsAcceptedFile plan files accepted.plan → IsAcceptedPlan accepted → are_built accepted.plan.elements ≡ true
@@ -67,7 +72,7 @@ outputs_of plan files text lines accepted file_is is_plan built chain is_chain w
   facts = accepted.facts;
   are_facts = is_plan.are_facts;
   shows = record { design = written.design; reads = written.reads; only = written.only; is_module = is_chain.is_module written.design written.same };
-  lines = reported.told (groups accepted.plan.elements) is_chain.costs ∙ sym (same_report accepted.facts (groups accepted.plan.elements) written.design (design_view chain.design) written.same);
+  lines = reported.told (groups accepted.plan.elements) is_chain.costs (is_chain.output written.design written.same ∙ same_output written.design (design_view chain.design) written.same) ∙ sym (same_report accepted.facts (groups accepted.plan.elements) written.design (design_view chain.design) written.same (told_at []));
   bounded = bounded_by (size accepted.plan.width) (size accepted.plan.ticks) accepted.plan.elements accepted.facts ((passes_of accepted.plan is_plan.passes).limits.elements) is_plan.are_facts;
 }
 

@@ -1,5 +1,5 @@
 -- What `compile` writes, and what its answers mean.
-use Rattle.std.specs.Prelude.{◌≡◌, ◌⊎◌, ℕ, ◌≤◌, ◌^◌, ℤ, pos, ◌*ℤ◌, ◌-ℤ◌, unsigned_abs, List, true, false, Result, Ok, Err}
+use Rattle.std.specs.Prelude.{◌≡◌, ◌⊎◌, ℕ, ◌≤◌, ◌^◌, ℤ, pos, ◌*ℤ◌, ◌-ℤ◌, unsigned_abs, List, [], true, false, Result, Ok, Err}
 use Rattle.std.specs.FinMap.{insert}
 use Rattle.mr_values.specs.Files.{Files}
 use Rattle.mr_values.specs.Host.{HostState}
@@ -17,6 +17,7 @@ use Rattle.chain_build.specs.Built.{are_built}
 use Rattle.plan_laws.specs.Laws.{plain}
 use Rattle.filter_text.specs.Headline.{IsTextOf}
 use Rattle.filter_core.specs.PlanFile.{IsAcceptedFile, IsRefusedPlan, AreReadToEnd}
+use Rattle.filter_report.specs.Extremes.{told_at}
 use Rattle.filter_report.specs.Report.{report_text}
 use Rattle.filter_core.specs.WholeFiles.{IsEmptied, HoldsFront, HoldsPart}
 
@@ -44,7 +45,7 @@ pub record AreOutputs (plan : List ℕ) (files : Files) (text report : List ℕ)
   pub facts : Facts
   pub are_facts : AreFacts (size built.plan.width) (size built.plan.ticks) built.plan.elements facts
   pub shows : IsTextOf built.plan.elements (size built.plan.width) (size built.plan.ticks) facts.latency facts.period text
-  pub lines : report ≡ report_text facts (groups built.plan.elements) shows.design
+  pub lines : report ≡ report_text facts (groups built.plan.elements) shows.design (told_at [])
   pub bounded : IsBounded built.plan.elements facts
 
 -- TEXT and REPORT hold these bytes, and no other file has changed

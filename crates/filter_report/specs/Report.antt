@@ -1,20 +1,22 @@
 -- The report of a plan and its module.
-use Rattle.std.specs.Prelude.{ℕ, ◌+◌, List, [], ◌∷◌, ◌++◌, codes, decimal, if◌then◌else◌}
-use Rattle.mr_values.specs.Timing.{Group, wide}
+use Rattle.std.specs.Prelude.{◌≡◌, ℕ, ◌+◌, ℤ, List, [], ◌∷◌, ◌++◌, Option, None, Some, codes, decimal, if◌then◌else◌}
+use Rattle.std.specs.Fmt.{signed_decimal}
+use Rattle.mr_values.specs.Timing.{Group}
 use Rattle.plan_check.specs.declared.facts.Facts.{Facts}
 use Rattle.stage_law.specs.declared.stage.Kind.{Kind}
 use Rattle.stage_law.specs.declared.stage.Kind.TheVariants.{Parallel, Symmetric, HalfBand, Folded, Distributed, CicDown, CicUp, Rounding}
 use Rattle.chain_build.specs.Built.{kind_of}
 use Rattle.verilog_tree.specs.declared.tree.Signal.{Signal}
 use Rattle.verilog_tree.specs.Counted.{Counts, counted, is_reg}
-use Rattle.verilog_tree.specs.Names.{text_of}
+use Rattle.verilog_tree.specs.Names.{shapes_of, text_of}
+use Rattle.verilog_tree.specs.Shown.{ports_of}
 use Rattle.verilog_tree.specs.Tree.{Design}
 
 -- the tick of the first output, the ticks from one to the next, the bound and the shift, and the bits of an output
-abbrev pub plan_lines : Facts → List ℕ
-plan_lines facts =
+abbrev pub plan_lines : Facts → ℕ → List ℕ
+plan_lines facts output =
     codes "latency " ++ decimal facts.latency ++ codes "\nperiod " ++ decimal facts.period ++ codes "\nbound " ++ decimal facts.bound ++ codes "\nshift " ++ decimal facts.shift
-    ++ codes "\noutput " ++ decimal (wide facts.end_lo facts.end_hi) ++ codes "\n"
+    ++ codes "\noutput " ++ decimal output ++ codes "\n"
 
 abbrev pub kind_word : Kind → List ℕ
 kind_word Parallel = codes "parallel"
@@ -37,14 +39,24 @@ abbrev pub group_lines : ℕ → List Group → Design → List ℕ
 group_lines number [] d = []
 group_lines number (g ∷ gs) d = group_line number (kind_of g) (counted d number) ++ group_lines (number + 1) gs d
 
--- the name of a register and its bits, and nothing for another signal
-abbrev pub register_line : Design → Signal → List ℕ
-register_line d s = if is_reg s.kind then codes "register " ++ text_of d s.name ++ codes " " ++ decimal s.width ++ codes "\n" else []
+-- a tick, and the value that a register has at it, where one is told
+abbrev pub extreme_words : Option (ℕ × ℤ) → List ℕ
+extreme_words None = []
+extreme_words (Some (tick, value)) = codes " tick " ++ decimal tick ++ codes " value " ++ signed_decimal value
+
+-- the name of a register, its bits, and what is told at the number of its name; and nothing for another signal
+abbrev pub register_line : Design → (ℕ → Option (ℕ × ℤ)) → Signal → List ℕ
+register_line d extremes s =
+    if is_reg s.kind then codes "register " ++ text_of d s.name ++ codes " " ++ decimal s.width ++ extreme_words (extremes s.name) ++ codes "\n" else []
 
 -- a line for each register, in the order of the declarations
-abbrev pub register_lines : Design → List Signal → List ℕ
-register_lines d [] = []
-register_lines d (s ∷ ss) = register_line d s ++ register_lines d ss
+abbrev pub register_lines : Design → (ℕ → Option (ℕ × ℤ)) → List Signal → List ℕ
+register_lines d extremes [] = []
+register_lines d extremes (s ∷ ss) = register_line d extremes s ++ register_lines d extremes ss
 
-abbrev pub report_text : Facts → List Group → Design → List ℕ
-report_text facts gs d = plan_lines facts ++ group_lines 1 gs d ++ register_lines d d.signals
+abbrev pub report_text : Facts → List Group → Design → (ℕ → Option (ℕ × ℤ)) → List ℕ
+report_text facts gs d extremes = plan_lines facts ((shapes_of d).width (ports_of d).out_data) ++ group_lines 1 gs d ++ register_lines d extremes d.signals
+
+-- so many bits has the module's output
+abbrev pub TellsOutput : ℕ → Design → Type 0
+TellsOutput output d = output ≡ (shapes_of d).width (ports_of d).out_data

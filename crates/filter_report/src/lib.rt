@@ -1,8 +1,10 @@
 //! The report of a plan and its module.
 #![tactic(auto)]
 
+mod extremes;
 mod groups;
 mod registers;
 mod report;
 
+pub use extremes::ExtremeAt;
 pub use report::report_text;

@@ -2,8 +2,10 @@
 ghost use Rattle.std.specs.Prelude.{◌≡◌, ◌++◌, OnOk};
 ghost use Rattle.verilog_tree.specs.Names.{text_of};
 ghost use Rattle.verilog_tree.specs.View.{design_view};
+ghost use Rattle.filter_report.specs.Extremes.{told_at};
 ghost use Rattle.filter_report.specs.Report.{register_line, register_lines};
 
+use crate::extremes::{ExtremeAt, extreme_at, put_extreme};
 use crate::report::put_number;
 use std::alloc::AllocError;
 use verilog_tree::{Kind, Module, Signal};
@@ -19,8 +21,8 @@ fn name_of(design: &Module, name: usize) -> &[u8]
 }
 
 // Appends the line of a signal, where it is a register.
-fn put_register(text: &mut Vec<u8>, design: &Module, signal: &Signal) -> Result<(), AllocError>
-    ensures { OnOk result (text.new.items ≡ text.old.items ++ register_line (design_view design.now) signal.now) }
+fn put_register(text: &mut Vec<u8>, design: &Module, extremes: &[Option<ExtremeAt>], signal: &Signal) -> Result<(), AllocError>
+    ensures { OnOk result (text.new.items ≡ text.old.items ++ register_line (design_view design.now) (told_at extremes.now) signal.now) }
 {
     if signal.kind != Kind::Reg {
         return Ok(());
@@ -28,16 +30,17 @@ fn put_register(text: &mut Vec<u8>, design: &Module, signal: &Signal) -> Result<
     text.extend_from_slice(b"register ")?;
     text.extend_from_slice(name_of(design, signal.name))?;
     put_number(text, " ", u128::from(signal.width))?;
+    put_extreme(text, extreme_at(extremes, signal.name))?;
     text.extend_from_slice(b"\n")?;
     Ok(())
 }
 
 /// Appends a line for each register, in the order of the declarations.
-pub(crate) fn put_registers(text: &mut Vec<u8>, design: &Module) -> Result<(), AllocError>
-    ensures { OnOk result (text.new.items ≡ text.old.items ++ register_lines (design_view design.now) (design_view design.now).signals) }
+pub(crate) fn put_registers(text: &mut Vec<u8>, design: &Module, extremes: &[Option<ExtremeAt>]) -> Result<(), AllocError>
+    ensures { OnOk result (text.new.items ≡ text.old.items ++ register_lines (design_view design.now) (told_at extremes.now) (design_view design.now).signals) }
 {
     for signal in design.signals.as_slice() {
-        put_register(text, design, signal)?;
+        put_register(text, design, extremes, signal)?;
     }
     Ok(())
 }

@@ -1,24 +1,19 @@
 // The report of a plan and its module.
 ghost use Rattle.std.specs.Prelude.{◌≡◌, ◌++◌, List, codes, decimal, IfOk, OnOk};
-ghost use Rattle.mr_values.specs.Timing.{Group, wide};
+ghost use Rattle.std.specs.Fmt.{signed_decimal};
+ghost use Rattle.mr_values.specs.Timing.{Group};
 ghost use Rattle.verilog_tree.specs.View.{design_view};
 ghost use Rattle.filter_text.specs.Written.{TellCosts};
-ghost use Rattle.filter_report.specs.Report.{plan_lines, report_text};
+ghost use Rattle.filter_report.specs.Extremes.{told_at};
+ghost use Rattle.filter_report.specs.Report.{plan_lines, report_text, TellsOutput};
 
+use crate::extremes::ExtremeAt;
 use crate::groups::put_groups;
 use crate::registers::put_registers;
 use filter_text::ChainModule;
 use itoa::Buffer;
-use mr_values::least_width;
 use plan_check::Facts;
 use std::alloc::{AllocError, Global};
-
-// The bits of an output.
-fn output_width(facts: &Facts) -> u8
-    ensures { result ≡ wide facts.now.end_lo facts.now.end_hi }
-{
-    least_width(facts.end_lo, facts.end_hi)
-}
 
 /// Appends a word and a number.
 pub(crate) fn put_number(text: &mut Vec<u8>, word: &str, number: u128) -> Result<(), AllocError>
@@ -30,27 +25,38 @@ pub(crate) fn put_number(text: &mut Vec<u8>, word: &str, number: u128) -> Result
     Ok(())
 }
 
+/// Appends a word and a number with its sign.
+pub(crate) fn put_value(text: &mut Vec<u8>, word: &str, value: i128) -> Result<(), AllocError>
+    ensures { OnOk result (text.new.items ≡ text.old.items ++ word.now ++ signed_decimal value) }
+{
+    text.extend_from_slice(word.as_bytes())?;
+    let mut buffer = Buffer::new();
+    text.extend_from_slice(buffer.format(value).as_bytes())?;
+    Ok(())
+}
+
 // The lines of the plan's numbers.
-fn plan_lines(alloc: Global, facts: &Facts) -> Result<Vec<u8>, AllocError>
-    ensures { IfOk result (λ text. text.items ≡ plan_lines facts.now) }
+fn plan_lines(alloc: Global, facts: &Facts, output: u8) -> Result<Vec<u8>, AllocError>
+    ensures { IfOk result (λ text. text.items ≡ plan_lines facts.now output) }
 {
     let mut text = Vec::new(alloc);
     put_number(&mut text, "latency ", u128::from(facts.latency))?;
     put_number(&mut text, "\nperiod ", u128::from(facts.period))?;
     put_number(&mut text, "\nbound ", facts.bound)?;
     put_number(&mut text, "\nshift ", u128::from(facts.shift))?;
-    put_number(&mut text, "\noutput ", u128::from(output_width(facts)))?;
+    put_number(&mut text, "\noutput ", u128::from(output))?;
     text.extend_from_slice(b"\n")?;
     Ok(text)
 }
 
 /// The report: latency and period in ticks, the bound, the shift, and the bits of the output; the form and the cost of each group; and
-/// the bits of each register, in the order of the text. Fails only for want of memory.
-pub fn report_text(alloc: Global, facts: &Facts, chain: &ChainModule) -> Result<Vec<u8>, AllocError>
-    ensures { IfOk result (λ text. (gs : List Group) → TellCosts 1 gs chain.now.costs.items (design_view chain.now.design) → text.items ≡ report_text facts.now gs (design_view chain.now.design)) }
+/// the bits of each register, in the order of the text, with the tick and the value that `extremes` tells at the number of its name.
+/// Fails only for want of memory.
+pub fn report_text(alloc: Global, facts: &Facts, chain: &ChainModule, extremes: &[Option<ExtremeAt>]) -> Result<Vec<u8>, AllocError>
+    ensures { IfOk result (λ text. (gs : List Group) → TellCosts 1 gs chain.now.costs.items (design_view chain.now.design) → TellsOutput chain.now.output (design_view chain.now.design) → text.items ≡ report_text facts.now gs (design_view chain.now.design) (told_at extremes.now)) }
 {
-    let mut text = plan_lines(alloc, facts)?;
+    let mut text = plan_lines(alloc, facts, chain.output)?;
     put_groups(&mut text, &chain.costs)?;
-    put_registers(&mut text, &chain.design)?;
+    put_registers(&mut text, &chain.design, extremes)?;
     Ok(text)
 }
