@@ -167,3 +167,34 @@ fn runs_in_any_pieces(rt: HostRuntime) -> Result<(), Fail> {
     }
     Ok(())
 }
+
+// So many times the same line.
+fn repeated(alloc: Global, line: &[u8], count: usize) -> Result<Vec<u8>, Fail> {
+    let mut lines = Vec::new(alloc);
+    for _turn in 0..count {
+        lines.extend_from_slice(line)?;
+    }
+    Ok(lines)
+}
+
+// A thousand samples of -8 through two moving sums of two values, every second of which is kept.
+#[test]
+fn decimates_in_any_pieces(rt: HostRuntime) -> Result<(), Fail> {
+    let alloc = rt.alloc();
+    let samples = repeated(alloc, b"-8\n", 1_000)?;
+    let mut lines = repeated(alloc, b"-8\n", 1)?;
+    lines.extend_from_slice(&repeated(alloc, b"-32\n", 499)?)?;
+    for size in [1usize, 7, 65_536] {
+        let mut host = MemoryHost::new(alloc);
+        host.set_piece(size);
+        host.add_file(
+            "halved",
+            b"version = 1\nwidth = 4\n[[element]]\nkind = \"cic_down\"\nfactor = 2\nstages = 2\n",
+        )?;
+        host.add_file("samples", &samples)?;
+        let outcome = filter_tool(alloc, &words(alloc, "run halved samples out")?, &mut host);
+        assert_eq!(rt; outcome.status, 0);
+        assert_eq!(rt; host.file("out"), Some(lines.as_slice()));
+    }
+    Ok(())
+}
