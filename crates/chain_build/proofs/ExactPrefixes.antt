@@ -1,5 +1,5 @@
 -- The first elements of an accepted plan, where none of them rounds.
-use Rattle.std.proofs.Common.{◌≡◌, ℕ, zero, suc, ◌+◌, ◌<◌, ◌≤◌, Bool, true, false, if◌then◌else◌, List, [], ◌∷◌, ◌++◌, length, take, refl, sym, ◌∙◌, ap, subst, arith, Option, None, Some, ℤ, pos, ◌≤ℤ◌}
+use Rattle.std.proofs.Common.{◌≡◌, ℕ, zero, suc, ◌≤◌, Bool, false, List, [], ◌∷◌, ◌++◌, length, take, refl, sym, ◌∙◌, ap, subst, arith, None, Some, ℤ, pos, ◌≤ℤ◌}
 use Rattle.std.specs.Prelude.{All}
 use Rattle.std.proofs.lemmas.Int.{ints}
 use Rattle.mr_values.specs.declared.plan.Element.{Element}
@@ -11,7 +11,7 @@ use Rattle.mr_values.specs.Value.{IsWithinLimits, size, chain}
 use Rattle.plan_check.specs.Accepted.{IsAccepted}
 use Rattle.plan_check.proofs.GroupSplit.{size_low, tail_limits}
 use Rattle.plan_laws.proofs.Passes.{passes_of}
-use Rattle.impulse_phase.specs.Response.{IsLinear, AreLinear}
+use Rattle.impulse_phase.specs.Response.{AreLinear}
 use Rattle.stage_law.specs.Registers.{TellsRanges}
 use Rattle.width_extreme.specs.Prefix.{IsStream}
 use Rattle.width_extreme.proofs.Modest.{plan-modest}

@@ -1,7 +1,7 @@
 -- There is one range of a form's sums.
-use Rattle.std.proofs.Common.{◌≡◌, ℕ, List, sym, ◌∙◌, ap, subst, ℤ, ◌≤ℤ◌, arith}
+use Rattle.std.proofs.Common.{◌≡◌, List, ◌∙◌, ap, subst, ℤ, ◌≤ℤ◌, arith}
 use Rattle.std.proofs.lemmas.Int.{ints}
-use Rattle.stage_law.specs.Range.{IsRange, IsReached}
+use Rattle.stage_law.specs.Range.{IsRange}
 use Rattle.stage_law.specs.Streams.{Streams}
 use Rattle.stage_law.specs.declared.ranges.Class.{Class}
 use Rattle.stage_law.specs.declared.ranges.Range.{Range}

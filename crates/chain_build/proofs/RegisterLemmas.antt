@@ -1,16 +1,14 @@
 -- A register of a stage is a linear register of the plan.
-use Rattle.std.proofs.Common.{◌≡◌, ◌⊎◌, ℕ, zero, suc, ◌+◌, ◌*◌, ◌≤◌, Bool, true, false, cond, List, [], ◌∷◌, Option, Some, None, slice_get, refl, sym, ◌∙◌, ap, subst, inl, inr, nat_eq, ℤ, pos}
+use Rattle.std.proofs.Common.{◌≡◌, ℕ, zero, suc, ◌+◌, ◌*◌, Bool, true, false, cond, List, [], ◌∷◌, Some, None, slice_get, sym, ◌∙◌, ap, subst, nat_eq, ℤ}
 use Rattle.std.specs.Prelude.{All}
-use Rattle.mr_values.specs.Sequence.{Sequence, samples, filter}
+use Rattle.mr_values.specs.Sequence.{samples}
 use Rattle.mr_values.specs.Value.{chain}
 use Rattle.mr_values.specs.Width.{FitsWidth}
 use Rattle.net_graph.specs.declared.cell.Cell.{Cell}
 use Rattle.net_graph.specs.declared.cell.Stream.{Stream}
-use Rattle.net_graph.specs.Cut.{Cut, cut_all, cut_control}
+use Rattle.net_graph.specs.Cut.{cut_all, cut_control}
 use Rattle.net_graph.specs.Grow.{Extends}
-use Rattle.net_graph.specs.Run.{Values, IsRun}
 use Rattle.net_graph.proofs.CutLemmas.{IsCut-all, IsCut-control}
-use Rattle.pipeline_balance.specs.Gate.{Carries}
 use Rattle.pipeline_balance.specs.Numbered.{IsRegister, name_of}
 use Rattle.stage_law.specs.Least.{HasStageRegister}
 use Rattle.stage_law.specs.Registers.{HeldSum, StageRegister, Telling, TellsRanges, bits_for, bits_of, needing}
@@ -53,6 +51,6 @@ module _ {streams : Streams} {cells old : List Cell} {last from : Stream} {width
     holds = λ s is inputs values xs fit run carried k in_class.
         let m = needed-member (prefix_range width stream.elements) r.sums s (nat_eq (bits_of (prefix_range width stream.elements) r.sums) 1) is in
         let held = (h.holds m.place s m.there).at cut_all IsCut-all inputs values (chain stream.elements (samples xs)) (has xs fit) run
-            (carries inputs values xs fit (extends.runs cut_all IsCut-all inputs values run) carried) k in_class in
+        (carries inputs values xs fit (extends.runs cut_all IsCut-all inputs values run) carried) k in_class in
         ap (λ (t : ℕ). values t h.node.place) (sym (ap (λ (o : ℕ). o + k * last.period + s.lag) offset_is ∙ ap (λ (p : ℕ). stream.offset + k * p + s.lag) period_is)) ∙ held;
   }

@@ -1,10 +1,7 @@
 -- The linear registers of the groups that were added so far.
-use Rattle.std.proofs.Common.{◌≡◌, ◌⊎◌, ℕ, zero, suc, ◌+◌, ◌-◌, ◌<◌, ◌≤◌, Bool, true, false, if◌then◌else◌, List, [], ◌∷◌, ◌++◌, length, map, take, append_assoc, append-nil, Some, None, Option, slice_get, refl, sym, ◌∙◌, ap, subst, arith, inl, inr, ℤ, pos}
-use Rattle.std.specs.Prelude.{All}
-use Rattle.std.proofs.lemmas.Bool.{cases_lt}
+use Rattle.std.proofs.Common.{◌≡◌, ◌⊎◌, ℕ, zero, suc, ◌+◌, ◌<◌, ◌≤◌, Bool, true, false, if◌then◌else◌, List, [], ◌∷◌, ◌++◌, length, map, take, append_assoc, Some, slice_get, refl, sym, ◌∙◌, ap, subst, arith, inl, inr}
 use Rattle.mr_values.specs.declared.plan.Element.{Element}
 use Rattle.mr_values.specs.Timing.{Group, Fir, DownCic, UpCic, Rounding, Stream as Timed, groups, input, after}
-use Rattle.mr_values.specs.Width.{FitsWidth}
 use Rattle.net_graph.specs.declared.cell.Cell.{Cell}
 use Rattle.net_graph.specs.declared.cell.Stream.{Stream}
 use Rattle.net_graph.specs.declared.name.Name.{Name}

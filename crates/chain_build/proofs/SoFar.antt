@@ -43,7 +43,6 @@ use Rattle.chain_build.proofs.Spans.{in_span-group, zero-group, HasRoom-span}
 use Rattle.chain_build.proofs.Grown.{IsGrown-refl, IsGrown-grows, IsGrown-trans, free_in}
 use Rattle.chain_build.proofs.GroupFacts.{facts-is, plain-carries}
 
-
 pub record SoFar (width ticks : ℕ) (whole : List Element) (old net : NetView) (from last : Stream) (rest : List Element) (left : List GroupFacts) (number : ℕ) (front : List Group) : Type 0 where
   pub done : Sequence → Sequence
   pub stream : Timed

@@ -1,5 +1,5 @@
 -- What a group adds to the linear registers so far.
-use Rattle.std.proofs.Common.{◌≡◌, ◌⊎◌, ℕ, zero, suc, ◌+◌, ◌<◌, ◌≤◌, Bool, true, false, List, [], ◌∷◌, ◌++◌, length, map, take, Option, Some, None, slice_get, refl, sym, ◌∙◌, ap, subst, arith, inl, inr, ℤ}
+use Rattle.std.proofs.Common.{◌≡◌, ℕ, zero, suc, ◌+◌, ◌<◌, true, false, List, [], ◌∷◌, ◌++◌, length, map, take, Option, Some, slice_get, refl, sym, ◌∙◌, ap, subst, arith, inl, inr, ℤ}
 use Rattle.std.specs.Prelude.{All, unwrap_or}
 use Rattle.std.proofs.lemmas.Bool.{cases_lt}
 use Rattle.mr_values.specs.declared.plan.Element.{Element}
@@ -7,7 +7,7 @@ use Rattle.mr_values.specs.declared.plan.Form.{Form}
 use Rattle.mr_values.specs.declared.plan.Form.TheVariants.{Parallel}
 use Rattle.mr_values.specs.declared.plan.Plan.{Plan}
 use Rattle.mr_values.specs.Sequence.{Sequence, samples}
-use Rattle.mr_values.specs.Timing.{Group, Fir, DownCic, UpCic, Rounding, Stream as Timed, groups, input, after_all, taps_of, form_of}
+use Rattle.mr_values.specs.Timing.{Group, Fir, DownCic, UpCic, Rounding, groups, taps_of, form_of}
 use Rattle.mr_values.specs.Value.{size, chain}
 use Rattle.mr_values.specs.Width.{FitsWidth}
 use Rattle.net_graph.specs.declared.cell.Cell.{Cell}
@@ -21,18 +21,16 @@ use Rattle.stage_law.specs.Realises.{IsOwnName}
 use Rattle.width_extreme.specs.Prefix.{IsStream}
 use Rattle.net_graph.specs.Cells.{NetView}
 use Rattle.net_graph.specs.Cut.{cut_all, cut_control}
-use Rattle.net_graph.specs.Run.{Values, IsRun}
 use Rattle.net_graph.specs.WellFormed.{IsFree}
 use Rattle.pipeline_balance.specs.Gate.{Carries}
 use Rattle.plan_check.specs.declared.facts.GroupFacts.{GroupFacts}
 use Rattle.plan_check.specs.Accepted.{IsAccepted}
 use Rattle.plan_check.specs.Groups.{IsSplit}
 use Rattle.plan_laws.proofs.Passes.{passes_of}
-use Rattle.plan_laws.proofs.Reach.{apply_groups}
 use Rattle.polyphase_fir.specs.Facts.{polyphase_facts}
 use Rattle.stage_law.specs.Facts.{StageFacts}
 use Rattle.stage_law.specs.Kinds.{is_linear}
-use Rattle.stage_law.specs.Least.{HasRegisters, HasStageRegister}
+use Rattle.stage_law.specs.Least.{HasRegisters}
 use Rattle.stage_law.specs.Registers.{StageRegister, TellsRanges}
 use Rattle.stage_law.specs.Streams.{Streams}
 use Rattle.chain_build.specs.declared.groups.Added.{Added}
@@ -45,7 +43,7 @@ use Rattle.chain_build.proofs.Prefixes.{sizes, chain-first}
 use Rattle.chain_build.proofs.RegisterLemmas.{register_on}
 use Rattle.chain_build.proofs.RegisterOn.{CarriesPrefix, IsRegisterOn}
 use Rattle.chain_build.proofs.RegistersSoFar.{stream_at, own_registers, IsLinearTaken, IsOwn, IsStep}
-use Rattle.chain_build.proofs.Samples.{AreSamples, the_samples}
+use Rattle.chain_build.proofs.Samples.{the_samples}
 use Rattle.chain_build.proofs.SoFar.{SoFar}
 
 -- the registers that a stage tells are those of the group

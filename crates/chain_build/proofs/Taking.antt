@@ -1,5 +1,5 @@
 -- The next group can take the streams before it.
-use Rattle.std.proofs.Common.{◌≡◌, ℕ, ◌+◌, ◌-◌, ◌≤◌, Bool, true, false, List, ◌∷◌, take, sym, ◌∙◌, ap, subst, arith, ℤ}
+use Rattle.std.proofs.Common.{◌≡◌, ℕ, ◌-◌, Bool, true, false, List, ◌∷◌, take, sym, ◌∙◌, ap, subst, arith}
 use Rattle.mr_values.specs.declared.plan.Element.{Element}
 use Rattle.mr_values.specs.declared.plan.Plan.{Plan}
 use Rattle.mr_values.specs.Sequence.{Sequence}
@@ -12,8 +12,7 @@ use Rattle.plan_check.specs.Accepted.{IsAccepted}
 use Rattle.plan_check.specs.Amounts.{gain}
 use Rattle.plan_check.specs.Groups.{IsSplit}
 use Rattle.plan_laws.proofs.Passes.{passes_of}
-use Rattle.span_ranges.specs.Span.{IsInSpan}
-use Rattle.stage_law.specs.Streams.{Streams, HasRoom}
+use Rattle.stage_law.specs.Streams.{HasRoom}
 use Rattle.width_extreme.specs.Prefix.{IsStream}
 use Rattle.chain_build.specs.Built.{has_rounding}
 use Rattle.chain_build.specs.Prefixes.{IsExactPrefix, CanTake, streams_before, elements_before}

@@ -67,12 +67,7 @@ fn ticks_of(plan: &Plan) -> u64
 }
 
 // The range of the chain's values: the exact one where no group rounds, else the span.
-fn output_range(
-    alloc: Global,
-    plan: &Plan,
-    facts: &Facts,
-    rounded: bool,
-) -> Result<Range, Memory>
+fn output_range(alloc: Global, plan: &Plan, facts: &Facts, rounded: bool) -> Result<Range, Memory>
     requires accepted { IsAccepted plan.now }
     requires are_facts { AreFacts (size plan.now.width) (size plan.now.ticks) plan.now.elements facts.now }
     requires rounded { rounded ≡ has_rounding (groups plan.now.elements) }

@@ -2,7 +2,7 @@
 
 use super::{build, can_build};
 use mr_values::{Element, Elements, Form, Mode, Plan, Taps};
-use net_graph::{NameKind, name_text};
+use net_graph::{NameKind, Netlist, name_text};
 use plan_check::check_plan;
 use std::test::Fail;
 
@@ -48,5 +48,54 @@ fn builds_a_chain(rt: HostRuntime) -> Result<(), Fail> {
         }
     }
     assert_eq!(rt; registers, 7);
+    Ok(())
+}
+
+// Counts the registers with names of group 1 that are of this width.
+fn count_wide(net: &Netlist, wide: u8) -> usize {
+    let mut registers = 0usize;
+    for place in 0..net.len() {
+        let node = net.node(place);
+        if let Some(name) = net.name(node)
+            && name.group == 1
+            && net.width(node) == wide
+        {
+            registers = registers.wrapping_add(1);
+        }
+    }
+    registers
+}
+
+#[test]
+fn builds_cascades(rt: HostRuntime) -> Result<(), Fail> {
+    let mut down = Vec::new(rt.alloc());
+    down.push(Element::CicDown {
+        factor: 2,
+        stages: 8,
+        delay: 2,
+    })?;
+    let plan = Plan {
+        width: 2,
+        ticks: 1,
+        elements: Elements::from_vec(down),
+    };
+    let facts = check_plan(rt.alloc(), &plan)?;
+    assert!(rt; can_build(&plan));
+    let built = build(rt.alloc(), &plan, &facts)?;
+    assert_eq!(rt; count_wide(&built.net, 18), 32);
+    let mut up = Vec::new(rt.alloc());
+    up.push(Element::CicUp {
+        factor: 2,
+        stages: 2,
+        delay: 1,
+    })?;
+    let plan = Plan {
+        width: 4,
+        ticks: 2,
+        elements: Elements::from_vec(up),
+    };
+    let facts = check_plan(rt.alloc(), &plan)?;
+    let built = build(rt.alloc(), &plan, &facts)?;
+    assert_eq!(rt; count_wide(&built.net, 5), 6);
     Ok(())
 }

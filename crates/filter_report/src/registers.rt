@@ -21,7 +21,12 @@ fn name_of(design: &Module, name: usize) -> &[u8]
 }
 
 // Appends the line of a signal, where it is a register.
-fn put_register(text: &mut Vec<u8>, design: &Module, extremes: &[Option<ExtremeAt>], signal: &Signal) -> Result<(), AllocError>
+fn put_register(
+    text: &mut Vec<u8>,
+    design: &Module,
+    extremes: &[Option<ExtremeAt>],
+    signal: &Signal,
+) -> Result<(), AllocError>
     ensures { OnOk result (text.new.items ≡ text.old.items ++ register_line (design_view design.now) (told_at extremes.now) signal.now) }
 {
     if signal.kind != Kind::Reg {
@@ -36,7 +41,11 @@ fn put_register(text: &mut Vec<u8>, design: &Module, extremes: &[Option<ExtremeA
 }
 
 /// Appends a line for each register, in the order of the declarations.
-pub(crate) fn put_registers(text: &mut Vec<u8>, design: &Module, extremes: &[Option<ExtremeAt>]) -> Result<(), AllocError>
+pub(crate) fn put_registers(
+    text: &mut Vec<u8>,
+    design: &Module,
+    extremes: &[Option<ExtremeAt>],
+) -> Result<(), AllocError>
     ensures { OnOk result (text.new.items ≡ text.old.items ++ register_lines (design_view design.now) (told_at extremes.now) (design_view design.now).signals) }
 {
     for signal in design.signals.as_slice() {

@@ -52,7 +52,12 @@ fn plan_lines(alloc: Global, facts: &Facts, output: u8) -> Result<Vec<u8>, Alloc
 /// The report: latency and period in ticks, the bound, the shift, and the bits of the output; the form and the cost of each group; and
 /// the bits of each register, in the order of the text, with the tick and the value that `extremes` tells at the number of its name.
 /// Fails only for want of memory.
-pub fn report_text(alloc: Global, facts: &Facts, chain: &ChainModule, extremes: &[Option<ExtremeAt>]) -> Result<Vec<u8>, AllocError>
+pub fn report_text(
+    alloc: Global,
+    facts: &Facts,
+    chain: &ChainModule,
+    extremes: &[Option<ExtremeAt>],
+) -> Result<Vec<u8>, AllocError>
     ensures { IfOk result (λ text. (gs : List Group) → TellCosts 1 gs chain.now.costs.items (design_view chain.now.design) → TellsOutput chain.now.output (design_view chain.now.design) → text.items ≡ report_text facts.now gs (design_view chain.now.design) (told_at extremes.now)) }
 {
     let mut text = plan_lines(alloc, facts, chain.output)?;

@@ -1,6 +1,5 @@
-use Rattle.std.proofs.Common.{◌≡◌, ◌∙◌, sym, ap, List, length}
+use Rattle.std.proofs.Common.{◌∙◌, sym, ap, List, length}
 use Rattle.mr_values.specs.declared.plan.Element.{Element}
-use Rattle.mr_values.specs.Sequence.{Sequence}
 use Rattle.mr_values.specs.Value.{chain, size}
 use Rattle.plan_laws.proofs.Passes.{passes_of}
 use Rattle.chain_build.proofs.ExactPrefixes.{whole-exact, take-whole, unrounded-linear}

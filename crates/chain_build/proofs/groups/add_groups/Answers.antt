@@ -1,4 +1,4 @@
-use Rattle.std.proofs.Common.{◌≡◌, sym, ◌∙◌, ap, refl, subst, List, [], ◌∷◌, ◌++◌, get_or, arith, inl, ◌+◌}
+use Rattle.std.proofs.Common.{sym, ◌∙◌, ap, refl, subst, List, [], ◌∷◌, ◌++◌, get_or, arith, inl, ◌+◌}
 use Rattle.plan_check.specs.declared.facts.GroupFacts.{GroupFacts}
 use Rattle.mr_values.specs.Timing.{groups}
 use Rattle.chain_build.specs.declared.groups.GroupCost.{GroupCost}
@@ -29,11 +29,15 @@ add_next-requires-clause-can_take c = can_take c.requires.accepted (so_at c.args
 
 pub loop-fact-preserved : goal.loop-fact-preserved
 loop-fact-preserved c =
-    let so = (so_at c.args.facts.now.groups.items c.loop-fact.fact-index c.loop-fact.invariant.0.1 _ no_facts (omega (arith, c.deref-fact-items.ensures.len)) (ap (λ (xs : List GroupFacts). get_or xs c.loop-fact.fact-index no_facts) c.deref-fact-items.ensures.value)) in
-    ((c.loop-fact.invariant.0.0 ++ _ ∷ [], SoFar-next so c.in-Some.ensures c.set_group-in-loop-fact.new.self c.in_ok-added.added _ (holds_before c.requires.accepted so c.in-Some.ensures c.loop-fact.rounded) c.set_group-in-loop-fact.ensures c.in_ok-added.ensures.ok,
-    rounded-more c.loop-fact.invariant.0.0 _ c.loop-fact.rounded _ c.loop-fact.invariant.0.2 c.is_rounding-rounded.ensures),
-    subst (λ (costs : List GroupCost). CostsSoFar (groups c.args.plan.now.elements) c.add_next.new.net.cells (groups c.in-Some.others.now) costs (c.loop-fact.number + 1)) (sym c.in_ok-push.ensures.items)
-        (CostsSoFar-next c.loop-fact.invariant.1 c.in-Some.ensures.parts (λ name data_kind more. c.loop-fact.invariant.0.1.names name data_kind (inl more)) c.set_group-in-loop-fact.new.self _ c.loop-fact.last c.in_ok-added.added c.set_group-in-loop-fact.ensures c.in_ok-added.ensures.ok))
+    let so = (so_at c.args.facts.now.groups.items c.loop-fact.fact-index c.loop-fact.invariant.0.1 _ no_facts (omega (arith, c.deref-fact-items.ensures.len)) (ap (λ (xs : List GroupFacts). get_or xs c.loop-fact.fact-index no_facts) c.deref-fact-items.ensures.value)) in (
+      (
+        c.loop-fact.invariant.0.0 ++ _ ∷ [],
+        SoFar-next so c.in-Some.ensures c.set_group-in-loop-fact.new.self c.in_ok-added.added _ (holds_before c.requires.accepted so c.in-Some.ensures c.loop-fact.rounded) c.set_group-in-loop-fact.ensures c.in_ok-added.ensures.ok,
+        rounded-more c.loop-fact.invariant.0.0 _ c.loop-fact.rounded _ c.loop-fact.invariant.0.2 c.is_rounding-rounded.ensures,
+      ),
+      subst (λ (costs : List GroupCost). CostsSoFar (groups c.args.plan.now.elements) c.add_next.new.net.cells (groups c.in-Some.others.now) costs (c.loop-fact.number + 1)) (sym c.in_ok-push.ensures.items)
+          (CostsSoFar-next c.loop-fact.invariant.1 c.in-Some.ensures.parts (λ name data_kind more. c.loop-fact.invariant.0.1.names name data_kind (inl more)) c.set_group-in-loop-fact.new.self _ c.loop-fact.last c.in_ok-added.added c.set_group-in-loop-fact.ensures c.in_ok-added.ensures.ok),
+    )
 
 pub returns : goal.returns
 returns c =
