@@ -3,8 +3,10 @@ pub mod InterpolatorLemmas
 pub mod PhaseLemmas
 pub mod PieceLemmas
 pub mod RealisesLemmas
+pub mod RegisterLemmas
 pub mod RowLemmas
 pub mod SampleLemmas
+pub mod SilentLemmas
 pub mod StepLemmas
 pub mod UpLemmas
 pub mod WeightLemmas

@@ -12,3 +12,6 @@ mod weights;
 
 pub use laws::law_of_cascades;
 pub use stages::{CicDown, CicUp};
+
+#[cfg(test)]
+mod tests;
