@@ -3,6 +3,7 @@ pub mod InterpolatorLemmas
 pub mod PhaseLemmas
 pub mod PieceLemmas
 pub mod RealisesLemmas
+pub mod RegisterLemmas
 pub mod RowLemmas
 pub mod SampleLemmas
 pub mod SilentLemmas

@@ -82,10 +82,10 @@ every_factor : (factor n : ℕ) → (n * factor) % factor ≡ 0
 every_factor factor n = mul-mod_left n factor
 
 module _ (streams : Streams) (factor stages delay : ℕ) where
-  down_value : (v : Sequence) (n : ℕ) → cic_down factor stages delay v (pos n) ≡ filter (moving_sums stages (factor * delay)) v (pos (n * factor))
+  pub down_value : (v : Sequence) (n : ℕ) → cic_down factor stages delay v (pos n) ≡ filter (moving_sums stages (factor * delay)) v (pos (n * factor))
   down_value v n = let index : pos n *ℤ pos factor ≡ pos (n * factor) = omega (arith, ints) in ap (filter_times stages (ones (factor * delay)) v) index ∙ sym (filter-sums stages (factor * delay) v (pos (n * factor)))
 
-  down_fits : (range : Range) (width : ℕ) → IsRange streams (moving_sums stages (factor * delay)) (record { modulus = factor; residue = 0 }) range → IsLeastWidth range.lo range.hi width
+  pub down_fits : (range : Range) (width : ℕ) → IsRange streams (moving_sums stages (factor * delay)) (record { modulus = factor; residue = 0 }) range → IsLeastWidth range.lo range.hi width
       → (v : Sequence) → streams v → (n : ℕ) → FitsWidth width (cic_down factor stages delay v (pos n))
   down_fits range width r w v is n =
       subst (FitsWidth width) (sym (down_value v n))
@@ -117,7 +117,7 @@ module _ (streams : Streams) (factor stages delay : ℕ) where
       let split : pos m ≡ pos (m / factor) *ℤ pos factor +ℤ pos (m % factor) = omega (arith, ints, div-add-mod' m factor) in
       sym (filter-sums stages (factor * delay) (up factor v) (pos m)) ∙ ap (filter w (up factor v)) split ∙ filter-up w factor v (pos (m / factor)) (m % factor) (mod-lt m some)
 
-  up_fits : (range : Range) (width : ℕ) → 1 ≤ factor → IsPhaseRange streams (moving_sums stages (factor * delay)) factor factor range → IsLeastWidth range.lo range.hi width
+  pub up_fits : (range : Range) (width : ℕ) → 1 ≤ factor → IsPhaseRange streams (moving_sums stages (factor * delay)) factor factor range → IsLeastWidth range.lo range.hi width
       → (v : Sequence) → streams v → (m : ℕ) → FitsWidth width (cic_up factor stages delay v (pos m))
   up_fits range width some r w v is m =
       let k : ℕ = m / factor in

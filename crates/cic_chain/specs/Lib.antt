@@ -2,4 +2,5 @@ pub mod Cascade
 pub mod Facts
 pub mod Phases
 pub mod Pieces
+pub mod Registers
 pub mod Weights

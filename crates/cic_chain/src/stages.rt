@@ -1,11 +1,13 @@
 // Cascades as stages of a chain.
 
-ghost use Rattle.std.specs.Prelude.{◌≡◌, ℕ, ◌*◌, ◌<◌, ◌≤◌, ◌^◌, IfOk};
+ghost use Rattle.std.specs.Prelude.{◌≡◌, ℕ, ◌<◌, ◌≤◌, ◌^◌, length, IfOk};
+ghost use Rattle.mr_values.specs.Sequence.{cic_down, cic_up};
 ghost use Rattle.mr_values.specs.Width.{IsLeastWidth};
-ghost use Rattle.stage_law.specs.Range.{IsRange};
+ghost use Rattle.net_graph.specs.Grow.{Extends};
+ghost use Rattle.stage_law.specs.Realises.{IsUnused};
 ghost use Rattle.stage_law.specs.Streams.{HasRoom};
 ghost use Rattle.cic_chain.specs.Facts.{cic_down_facts, cic_up_facts, TakesDown, TakesUp};
-ghost use Rattle.cic_chain.specs.Weights.{moving_sums};
+ghost use Rattle.cic_chain.specs.Registers.{HasCascade, IsCascadeOf};
 
 use crate::decimator::decimate;
 use crate::interpolator::interpolate;
@@ -40,6 +42,38 @@ impl<const N: usize, const D: usize> CicDown<N, D> {
         ensures { result.factor ≡ factor }
     {
         CicDown { factor }
+    }
+
+    /// Adds the stage's nodes, which read the stream, in the net's group: N integrators, N combs and D registers more for each comb, all of
+    /// the least width for what the stage gives. After want of memory there may be more nodes.
+    pub fn cascade<R: Ranges>(
+        &self,
+        alloc: Global,
+        net: &mut Net,
+        from: Stream,
+        ranges: &R,
+    ) -> Result<Stream, Memory>
+        requires within { from.node.place < length net.old.cells }
+        requires group { 1 ≤ net.old.group }
+        requires unused { IsUnused net.old.cells net.old.group }
+        requires early { from.offset < 2 ^ 31 }
+        requires takes { TakesDown from.period }
+        requires room { HasRoom (R.streams ranges.now) (cic_down_facts self.now.factor N D).gain }
+        ensures stream { IfOk result (IsCascadeOf (cic_down_facts self.now.factor N D) (R.streams ranges.now) net.old net.new from) }
+        ensures registers { IfOk result (λ _. HasCascade (R.streams ranges.now) (cic_down self.now.factor N D) net.new.cells net.old.group N D) }
+        ensures extends { Extends net.old.cells net.new.cells }
+        ensures same_group { net.new.group ≡ net.old.group }
+    {
+        let weights = moving_sums(alloc, N, self.factor as usize * D)?;
+        let sum = WeightedSum { behind: 0, weights };
+        let kept = Class {
+            modulus: self.factor,
+            residue: 0,
+        };
+        let range = ranges.range(&sum, kept);
+        let width = width_of(range);
+        let stream = decimate(alloc, net, from, self.factor, N, D, width)?;
+        Ok(stream)
     }
 }
 
@@ -85,15 +119,7 @@ impl<const N: usize, const D: usize> Stage for CicDown<N, D> {
         from: Stream,
         ranges: &R,
     ) -> Result<Emitted, Memory> {
-        let weights = moving_sums(alloc, N, self.factor as usize * D)?;
-        let sum = WeightedSum { behind: 0, weights };
-        let kept = Class {
-            modulus: self.factor,
-            residue: 0,
-        };
-        let range = ranges.range(&sum, kept);
-        let width = width_of(range);
-        let stream = decimate(alloc, net, from, self.factor, N, D, width)?;
+        let stream = self.cascade(alloc, net, from, ranges)?;
         Ok(Emitted {
             stream,
             peaks: Vec::new(alloc),
@@ -125,6 +151,33 @@ impl<const N: usize, const D: usize> CicUp<N, D> {
         ensures { result.factor ≡ factor }
     {
         CicUp { factor }
+    }
+
+    /// Adds the stage's nodes, which read the stream, in the net's group: N integrators, N combs and D registers more for each comb, all of
+    /// the least width for what the stage gives. After want of memory there may be more nodes.
+    pub fn cascade<R: Ranges>(
+        &self,
+        alloc: Global,
+        net: &mut Net,
+        from: Stream,
+        ranges: &R,
+    ) -> Result<Stream, Memory>
+        requires within { from.node.place < length net.old.cells }
+        requires group { 1 ≤ net.old.group }
+        requires unused { IsUnused net.old.cells net.old.group }
+        requires early { from.offset < 2 ^ 31 }
+        requires takes { TakesUp self.now.factor from.period }
+        requires room { HasRoom (R.streams ranges.now) (cic_up_facts self.now.factor N D).gain }
+        ensures stream { IfOk result (IsCascadeOf (cic_up_facts self.now.factor N D) (R.streams ranges.now) net.old net.new from) }
+        ensures registers { IfOk result (λ _. HasCascade (R.streams ranges.now) (cic_up self.now.factor N D) net.new.cells net.old.group N D) }
+        ensures extends { Extends net.old.cells net.new.cells }
+        ensures same_group { net.new.group ≡ net.old.group }
+    {
+        let weights = moving_sums(alloc, N, self.factor as usize * D)?;
+        let range = phase_range(alloc, weights.as_slice(), self.factor, ranges)?;
+        let width = width_of(range);
+        let stream = interpolate(alloc, net, from, self.factor, N, D, width)?;
+        Ok(stream)
     }
 }
 
@@ -164,10 +217,7 @@ impl<const N: usize, const D: usize> Stage for CicUp<N, D> {
         from: Stream,
         ranges: &R,
     ) -> Result<Emitted, Memory> {
-        let weights = moving_sums(alloc, N, self.factor as usize * D)?;
-        let range = phase_range(alloc, weights.as_slice(), self.factor, ranges)?;
-        let width = width_of(range);
-        let stream = interpolate(alloc, net, from, self.factor, N, D, width)?;
+        let stream = self.cascade(alloc, net, from, ranges)?;
         Ok(Emitted {
             stream,
             peaks: Vec::new(alloc),

@@ -1,21 +1,5 @@
-use Rattle.std.proofs.Common.{◌≡◌, ◌*◌, arith, refl, ap, subst, List, ℤ}
-use Rattle.stage_law.specs.Range.{IsRange}
-use Rattle.stage_law.specs.Streams.{magnitudes}
-use Rattle.stage_law.specs.declared.ranges.Class.{Class}
-use Rattle.cic_chain.specs.Weights.{moving_sums}
-use Rattle.cic_chain.proofs.RealisesLemmas.{Realises-down, room_for}
+use Rattle.std.proofs.Common.{refl}
 use Rattle.cic_chain.proofs.stages.CicDownStage.emit.Goals as goal
 
-pub range-range-requires-clause-room : goal.range-range-requires-clause-room
-range-range-requires-clause-room g c =
-    let form = c.in_ok-weights.weights.items in
-    let is : form ≡ moving_sums g.row.N (c.args.self.now.factor * g.row.D) = c.in_ok-weights.ensures in
-    room_for (g.R.Ranges.streams c.args.ranges.now) g.row.N (c.args.self.now.factor * g.row.D) form c.requires.room (let e = ap magnitudes is in omega (arith, e))
-
 pub returns-clause-realises : goal.returns-clause-realises
-returns-clause-realises g c =
-    let factor = c.args.self.now.factor in
-    let is : c.in_ok-weights.weights.items ≡ moving_sums g.row.N (factor * g.row.D) = c.in_ok-weights.ensures in
-    let kept : Class = record { modulus = factor; residue = 0 } in
-    let range = subst (λ (form : List ℤ). IsRange (g.R.Ranges.streams c.args.ranges.now) form kept c.range-range.result) is c.range-range.ensures in
-    Realises-down (g.R.Ranges.streams c.args.ranges.now) factor g.row.N g.row.D _ refl (g.met.R.Ranges.causal c.args.ranges.now) c.args.self.now.some c.requires.within range c.width_of-width.ensures c.in_ok-stream.ensures.ok
+returns-clause-realises g c = c.in_ok-stream.ensures.stream.realises _ refl
