@@ -16,3 +16,4 @@ pub mod RegistersText
 pub mod SumExtreme
 pub mod LeastText
 pub mod ChainRegisters
+pub mod TellExtremes

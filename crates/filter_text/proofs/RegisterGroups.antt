@@ -53,7 +53,7 @@ of_kind Output named number own place group is h = absurd (false_true h)
 of_kind Valid named number own place group is h = absurd is
 
 -- a register has a name
-named_register : (o : Option Name) (item : Option Item) (next : Node) → item ≡ Some (Register next) → IsNamed o item → (name : Name) × (o ≡ Some name) × IsRegisterName name
+pub named_register : (o : Option Name) (item : Option Item) (next : Node) → item ≡ Some (Register next) → IsNamed o item → (name : Name) × (o ≡ Some name) × IsRegisterName name
 named_register None item next is named = absurd (rw is at named)
 named_register (Some name) item next is named = (name, refl, rw is at named)
 

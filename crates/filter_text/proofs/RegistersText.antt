@@ -1,5 +1,7 @@
 -- The linear registers of a plan are in its module as they are in its net.
 use Rattle.std.proofs.Common.{◌≡◌, inr, ℕ, zero, suc, ◌+◌, ◌*◌, ◌<◌, ◌≤◌, true, List, [], ◌∷◌, length, drop, take, Some, slice_get, sym, ◌∙◌, ap, arith, pos}
+use Rattle.std.specs.Prelude.{bytes_eq}
+use Rattle.std.specs.List.{position_or_len}
 use Rattle.mr_values.specs.declared.plan.Element.{Element}
 use Rattle.mr_values.specs.Sequence.{samples, filter}
 use Rattle.mr_values.specs.Timing.{Group, Fir, DownCic, UpCic, Rounding, groups}
@@ -23,6 +25,7 @@ use Rattle.verilog_text.specs.Order.{IsSameButPlaces}
 use Rattle.net_module.specs.Written.{is_register, written_module, number_of}
 use Rattle.net_module.specs.Steps.{ticks_in, samples_of}
 use Rattle.net_module.proofs.Cycles.{register_data}
+use Rattle.net_module.proofs.NodeTexts.{node_text_of}
 use Rattle.net_text.specs.Small.{AreSmall}
 use Rattle.chain_build.specs.ChainNet.{IsChainNet}
 use Rattle.chain_build.specs.Linear.{LinearRegister, linear, is_linear_group, is_linear_number}
@@ -34,6 +37,7 @@ use Rattle.filter_text.proofs.ChainShows.{has_samples, samples_fit}
 use Rattle.filter_text.proofs.CountedText.{few_groups}
 use Rattle.filter_text.proofs.NodeNames.{text_number, register_text}
 use Rattle.filter_text.proofs.RegisterNumbers.{register_kind, register_width, register_bits, register_whole}
+use Rattle.filter_text.proofs.UncutPlaces.{same_text}
 use Rattle.filter_text.proofs.RegisterGroups.{register_of_group}
 
 -- a linear group has the number of a group
@@ -84,8 +88,16 @@ module _ {width ticks : ℕ} {elements : List Element} {cells : List Cell} {out_
         ∙ ap (λ (t : ℕ). run.0 t its.node.place) is
         ∙ its.holds s needs (samples_of width after) run.0 (samples_in width ticks after) (samples_fit width ticks some wide after runs.fit) (has_samples width ticks some after) run.1 k class
 
+    text_is : text_of d (register_number d r) ≡ written_name r.name
+    text_is =
+        same_text d (written_module cells) same (register_number d r)
+        ∙ ap (text_of (written_module cells)) (ap (λ (names : List (List ℕ)). position_or_len (bytes_eq (written_name r.name)) names) same.same_names ∙ numbered)
+        ∙ node_text_of cells its.node.place its.register.cell its.register.there (register_data its.register.cell.item registered)
+        ∙ register_text cells net.netlist its.node.place its.register.cell r.name its.register.there registered its.register.named
+
     pub linear_register : IsLinearRegister width ticks d r
     linear_register = record {
+      named = text_is;
       is_register = register_kind wide narrow some net its.node.place its.register.cell its.register.there registered (written_name r.name) numbered d same;
       wide = register_width wide narrow some net its.node.place its.register.cell its.register.there registered (written_name r.name) numbered d same ∙ its.register.wide;
       uncut = uncut_same;

@@ -1,3 +1,4 @@
 pub mod Headline
 pub mod Registers
 pub mod Written
+pub mod Extremes

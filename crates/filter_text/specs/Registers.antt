@@ -25,6 +25,7 @@ register_number d r = number_of d (written_name r.name)
 -- The module has this register. In each cycle after the last reset cycle it has its whole number of every uncut run that begins at that
 -- reset cycle; and with so many ticks before the cycle as the sum that needs its width asks for, it has that sum over the samples since then.
 pub record IsLinearRegister (width ticks : ℕ) (d : Design) (r : LinearRegister) : Type 0 where
+  pub named : text_of d (register_number d r) ≡ written_name r.name
   pub is_register : kind_of d (register_number d r) ≡ Some Reg
   pub wide : (shapes_of d).width (register_number d r) ≡ r.width
   pub uncut : (content : Values) (before after : List Cycle) (reset : Cycle) (settled : List Values) → IsRunFrom d width content before after reset settled
