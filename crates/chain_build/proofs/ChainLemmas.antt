@@ -1,5 +1,6 @@
 -- The net of a plan, part by part.
 use Rattle.std.proofs.Common.{◌≡◌, ◌⊎◌, ℕ, zero, suc, ◌+◌, ◌-◌, ◌*◌, ◌<◌, ◌≤◌, List, [], ◌∷◌, length, refl, sym, ◌∙◌, ap, arith, Some, None, slice_get, inl, inr, subst, ℤ, pos, IsSome, true, false}
+use Rattle.std.specs.Prelude.{All}
 use Rattle.std.proofs.lemmas.Int.{ints}
 use Rattle.std.proofs.lemmas.Nat.{pow_pos}
 use Rattle.std.proofs.lemmas.Bool.{cases_lt}
@@ -19,6 +20,7 @@ use Rattle.net_graph.specs.Name.{is_control, is_input}
 use Rattle.net_graph.specs.WellFormed.{IsWellFormed, IsBound}
 use Rattle.net_graph.specs.Control.{IsControlClosed}
 use Rattle.net_graph.specs.Cut.{Cut, IsCut, cut_all, cut_control}
+use Rattle.net_graph.specs.Run.{Values, IsRun}
 use Rattle.net_graph.specs.Grow.{Adds}
 use Rattle.net_graph.proofs.CutLemmas.{IsCut-all, IsCut-control}
 use Rattle.net_graph.proofs.NetLemmas.{cell_of_added}
@@ -30,7 +32,7 @@ use Rattle.chain_build.specs.declared.groups.GroupCost.{GroupCost}
 use Rattle.chain_build.specs.declared.output.Outputs.{Outputs}
 use Rattle.chain_build.specs.Added.{IsGrown, AreNameless, CarriesChain, IsChained}
 use Rattle.chain_build.specs.Built.{are_built, AreBuiltGroups, has_rounding}
-use Rattle.chain_build.specs.ChainNet.{HasInput, ShowsValues, IsChainNet}
+use Rattle.chain_build.specs.ChainNet.{HasInput, HasSamples, ShowsValues, IsChainNet}
 use Rattle.chain_build.specs.GroupCosts.{AreUngrouped, AreApart, HasCosts}
 use Rattle.chain_build.specs.Linear.{output_range}
 use Rattle.chain_build.specs.Output.{AddsOutputs}
@@ -133,7 +135,7 @@ sample_fits width ticks z h =
 module _ {n1 n2 n3 : NetView} {node : Node} {stream : Stream} {outputs : Outputs} (width ticks : ℕ) (elements : List Element) (wide : 1 ≤ width) (a : Adds empty n1 node width Input)
     (chained : (let from : Stream = record { node = node; period = ticks; offset = 0 } in IsChained width ticks elements n1 n2 from stream))
     (linear : has_rounding (groups elements) ≡ false → AreLinear elements) (outs : AddsOutputs (output_range width ticks elements).lo (output_range width ticks elements).hi n2 n3 stream outputs) where
-  over : RangesOver width elements (output_range width ticks elements)
+  pub over : RangesOver width elements (output_range width ticks elements)
   over = ranges-over width ticks elements (last_stream width ticks elements).low (last_stream width ticks elements).high chained.low_small chained.high_small chained.span refl refl linear
 
   grown : IsGrown n1.cells n3.cells
@@ -142,19 +144,22 @@ module _ {n1 n2 n3 : NetView} {node : Node} {stream : Stream} {outputs : Outputs
   pub bound3 : IsBound n3.cells
   bound3 = grown.bound (bound1 a)
 
-  shows : (cut : Cut) → IsCut cut → (let from : Stream = record { node = node; period = ticks; offset = 0 } in CarriesChain cut width elements n2.cells from stream) → ShowsValues cut width ticks elements n3.cells outputs.out_q
-  shows cut law through_chain inputs values xs fit are run =
-      let v = samples xs in
-      let inside = samples-inside width ticks v (the_samples xs fit) in
-      let fits : (k : ℕ) → FitsWidth width (v (pos k)) = λ k. sample_fits width ticks (v (pos k)) (inside.within (pos k)) in
-      let from : Stream = record { node = node; period = ticks; offset = 0 } in
-      let carried : Carries values from v =
-      λ k.
+  -- the input's stream carries the samples
+  pub carried_from : (cut : Cut) → IsCut cut → (inputs : ℕ → ℤ) (values : Values) (xs : List ℤ) → All (FitsWidth width) xs → HasSamples ticks inputs (samples xs) → IsRun cut n3.cells inputs values
+      → Carries values (record { node = node; period = ticks; offset = 0 }) (samples xs)
+  carried_from cut law inputs values xs fit are run k =
+      let inside = samples-inside width ticks (samples xs) (the_samples xs fit) in
+      let fits : FitsWidth width (samples xs (pos k)) = sample_fits width ticks (samples xs (pos k)) (inside.within (pos k)) in
       let at : 0 + k * ticks ≡ k * ticks = omega arith in
       ap (λ (t : ℕ). values t node.place) at
       ∙ (grown.extends.runs cut law inputs values run).each node.place _ (cell_of_added a) (k * ticks)
       ∙ ap (cut false width) (are k)
-      ∙ law.fitting false width (v (pos k)) wide (fits k) in
+      ∙ law.fitting false width (samples xs (pos k)) wide fits
+
+  pub shows : (cut : Cut) → IsCut cut → (let from : Stream = record { node = node; period = ticks; offset = 0 } in CarriesChain cut width elements n2.cells from stream) → ShowsValues cut width ticks elements n3.cells outputs.out_q
+  shows cut law through_chain inputs values xs fit are run =
+      let v = samples xs in
+      let carried = carried_from cut law inputs values xs fit are run in
       let through = through_chain inputs values xs fit (outs.grown.extends.runs cut law inputs values run) carried in
       let range = output_range width ticks elements in
       let out_fits : (k : ℕ) → FitsWidth outs.width (chain elements v (pos k)) =

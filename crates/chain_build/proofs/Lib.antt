@@ -15,7 +15,9 @@ pub mod RegisterOn
 pub mod RegisterLemmas
 pub mod RegistersSoFar
 pub mod StepLemmas
+pub mod StepAt
 pub mod OutputLemmas
 pub mod ChainLemmas
+pub mod LinearBuilt
 pub mod Counting
 pub mod CostsSoFar

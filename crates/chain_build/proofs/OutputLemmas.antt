@@ -1,6 +1,10 @@
 -- The output register and its bit, call by call.
-use Rattle.std.proofs.Common.{◌≡◌, ℕ, suc, ◌+◌, ◌*◌, ◌<◌, ◌≤◌, ◌^◌, List, length, refl, sym, ◌∙◌, ap, arith, Option, Some, None, slice_get, subst, ℤ, pos, ◌*ℤ◌, Bool, false, not, ◌&&◌}
+use Rattle.std.proofs.Common.{◌≡◌, ◌⊎◌, inl, inr, ℕ, suc, ◌+◌, ◌*◌, ◌<◌, ◌≤◌, ◌^◌, List, length, refl, sym, ◌∙◌, ap, arith, Option, Some, None, slice_get, subst, ℤ, pos, ◌*ℤ◌, Bool, false, not, ◌&&◌}
+use Rattle.std.specs.Prelude.{slice_set}
+use Rattle.std.proofs.lemmas.Bool.{cases_eq}
 use Rattle.std.proofs.lemmas.Int.{ints}
+use Rattle.std.proofs.lemmas.Option.{same_Some}
+use Rattle.mr_values.specs.Sequence.{Sequence}
 use Rattle.mr_values.specs.Width.{FitsWidth, IsLeastWidth}
 use Rattle.net_graph.specs.declared.cell.Cell.{Cell}
 use Rattle.net_graph.specs.declared.cell.Node.{Node}
@@ -8,26 +12,29 @@ use Rattle.net_graph.specs.declared.cell.Stream.{Stream}
 use Rattle.net_graph.specs.declared.cell.Item.TheVariants.{Shl}
 use Rattle.net_graph.specs.declared.name.Name.{Name}
 use Rattle.net_graph.specs.declared.name.NameKind.{NameKind}
-use Rattle.net_graph.specs.declared.name.NameKind.TheVariants.{Output, Valid}
+use Rattle.net_graph.specs.declared.name.NameKind.TheVariants.{Control, Output, Valid}
 use Rattle.net_graph.specs.Cells.{NetView, cell_at}
 use Rattle.net_graph.specs.Name.{is_control, is_control_name, is_input}
 use Rattle.net_graph.specs.WellFormed.{IsFree}
 use Rattle.net_graph.specs.Count.{total, adder, window, table, windows_in, tables_in, is_window, is_table, has_kind, one_if}
 use Rattle.net_graph.specs.Grow.{Extends, Grows, Adds, IsNamedAs, named_as}
-use Rattle.net_graph.proofs.Lists.{slice_get-set_same}
+use Rattle.net_graph.specs.Cut.{Cut, IsCut, cut_all, cut_control}
+use Rattle.net_graph.specs.Run.{Values, IsRun}
+use Rattle.net_graph.proofs.CutLemmas.{IsCut-all, IsCut-control}
+use Rattle.net_graph.proofs.Lists.{slice_get-set_same, slice_get-set_other}
 use Rattle.net_graph.proofs.CellLemmas.{cell_at-is, cell_at-there}
 use Rattle.net_graph.proofs.CountLemmas.{adders_plain, total_set}
 use Rattle.net_graph.proofs.NetLemmas.{Extends-trans, cell_of_added}
 use Rattle.net_graph.proofs.GrowLemmas.{Grows-refl, Grows-trans, Grows-named, IsOfControl-later}
-use Rattle.pipeline_balance.specs.Numbered.{IsRegister, name_of}
-use Rattle.pipeline_balance.specs.Gate.{IsTickOf, IsCounter, AddsGate, HasTaken, IsTaken}
+use Rattle.pipeline_balance.specs.Numbered.{IsRegister, LeavesFree, name_of}
+use Rattle.pipeline_balance.specs.Gate.{IsTickOf, IsCounter, AddsGate, Carries, HasTaken, IsTaken, taken_value}
 use Rattle.pipeline_balance.specs.Costs.{SameAdders, SameNamed}
 use Rattle.pipeline_balance.specs.Tree.{AddsNode}
 use Rattle.pipeline_balance.proofs.CostLemmas.{SameAdders-refl, SameAdders-trans, SameAdders-plain, SameNamed-refl, SameNamed-trans, SameNamed-adds, nothing_more, other_kind}
 use Rattle.pipeline_balance.proofs.NumberedLemmas.{width-later, IsRegister-later, LeavesFree-refl}
 use Rattle.pipeline_balance.proofs.PairLemmas.{AddsNode-adds}
-use Rattle.pipeline_balance.proofs.TakenLemmas.{IsBitOf-later}
-use Rattle.chain_build.specs.Output.{IsCutTo, TakesOver, AddsOutputs}
+use Rattle.pipeline_balance.proofs.TakenLemmas.{IsBitOf-later, taken}
+use Rattle.chain_build.specs.Output.{IsCutTo, TakesOver, IsKeptWhole, AddsOutputs}
 use Rattle.chain_build.proofs.Grown.{IsGrown-grows, IsGrown-trans}
 
 pub IsCutTo-same : (net : NetView) (node : Node) (width : ℕ) → node.place < length net.cells → (cell_at net.cells node.place).width ≡ width → IsCutTo net net node width node
@@ -117,6 +124,45 @@ module _ {n0 n1 n2 n3 n4 : NetView} {from : Stream} {node out_q out_valid : Node
         ∙ cut_node.keeps cut law inputs values (x1.runs cut law inputs values run) at fit
         ∙ carried k
 
+    -- what the register's stream shows is what is carried, in each cut
+    shown_is : (cut : Cut) → IsCut cut → (inputs : ℕ → ℤ) (values : Values) (v : Sequence) → ((k : ℕ) → FitsWidth width (v (pos k))) → IsRun cut n5.cells inputs values → Carries values from v
+        → (k : ℕ) → values (from.offset + k * from.period) node.place ≡ v (pos k)
+    shown_is cut law inputs values v fits run carried k =
+        let fit : FitsWidth width (values (from.offset + k * from.period) from.node.place) = subst (FitsWidth width) (sym (carried k)) (fits k) in
+        cut_node.keeps cut law inputs values (x1.runs cut law inputs values run) (from.offset + k * from.period) fit ∙ carried k
+
+    held : (cut : Cut) → IsCut cut → (inputs : ℕ → ℤ) (values : Values) → IsRun cut n5.cells inputs values → (s n : ℕ) → HasTaken from.period from.offset n s
+        → values s out_q.place ≡ taken_value (λ k. values (from.offset + k * from.period) node.place) n 0
+    held cut law inputs values run s n has = t.holds.holds cut law inputs values (x4.runs cut law inputs values run) s n has
+
+    kept : IsKeptWhole n5.cells from width out_q
+    kept inputs values whole v fits run uncut carried carried_whole s =
+        let some = taken from.period from.offset s positive in
+        let same : (k : ℕ) → values (from.offset + k * from.period) node.place ≡ whole (from.offset + k * from.period) node.place =
+        λ k. shown_is cut_all IsCut-all inputs values v fits run carried k ∙ sym (shown_is cut_control IsCut-control inputs whole v fits uncut carried_whole k) in
+        held cut_all IsCut-all inputs values run s some.0 some.1
+        ∙ ap (λ (f : ℕ → ℤ). taken_value f some.0 0) (λ i k. same k i)
+        ∙ sym (held cut_control IsCut-control inputs whole uncut s some.0 some.1)
+
+    -- of names in a stage's group none is taken
+    leaves_free : LeavesFree n0.cells n5.cells (λ name. (name.group ≡ 0) ⊎ (name.kind ≡ Control))
+    leaves_free = record {
+      free = λ name other f.
+          free_named name (λ e. other (inl (ap (λ (x : Name). x.group) e)))
+          (b.names.free name (λ c. other (inr c)) (t.names.free name (λ e. other (inl (ap (λ (x : Name). x.group) e))) (g.names.free name (λ c. other (inr c)) (cut_node.names.free name (λ none. none) f))));
+    }
+      where
+        free_named : (name : Name) → (name ≡ name_of 0 Valid 0 → ⊥) → IsFree n4.cells name → IsFree n5.cells name
+        free_named name other f = record { none = λ place cell there is. by place cell is (cases_eq place out_valid.place) (subst (λ (cells : List Cell). slice_get cells place ≡ Some cell) n.cells there) }
+          where
+            by : (place : ℕ) (cell : Cell) → cell.name ≡ Some name → (place ≡ out_valid.place) ⊎ (place ≡ out_valid.place → ⊥) → slice_get (slice_set n4.cells out_valid.place (named_as (cell_at n4.cells out_valid.place) (name_of 0 Valid 0))) place ≡ Some cell → ⊥
+            by place cell is (inl here) there =
+                let at : slice_get (slice_set n4.cells out_valid.place (named_as (cell_at n4.cells out_valid.place) (name_of 0 Valid 0))) out_valid.place ≡ Some cell =
+                subst (λ (k : ℕ). slice_get (slice_set n4.cells out_valid.place (named_as (cell_at n4.cells out_valid.place) (name_of 0 Valid 0))) k ≡ Some cell) here there in
+                let same : named_as (cell_at n4.cells out_valid.place) (name_of 0 Valid 0) ≡ cell = same_Some _ _ (sym (slice_get-set_same n4.cells out_valid.place _ inside) ∙ at) in
+                other (same_Some _ _ (sym (ap (λ (c : Cell). c.name) same ∙ is)))
+            by place cell is (inr apart) there = f.none place cell (sym (slice_get-set_other n4.cells out_valid.place place _ apart) ∙ there) is
+
     here : slice_get n4.cells out_valid.place ≡ Some (cell_at n4.cells out_valid.place)
     here = cell_at-there n4.cells out_valid.place inside
 
@@ -147,6 +193,8 @@ module _ {n0 n1 n2 n3 n4 : NetView} {from : Stream} {node out_q out_valid : Node
       group = n2.group;
       register = subst (λ (u : ℕ). IsRegister n5.cells out_q.place n2.group (name_of 0 Output 0) u) end_width (IsRegister-later x4 t.register);
       carries = takes;
+      kept_whole = kept;
+      names = leaves_free;
       shown = ap (λ (c : Cell). c.name) valid_is;
       shown_width = ap (λ (c : Cell). c.width) valid_is ∙ ap (λ (c : Cell). c.width) (cell_at-is n4.cells out_valid.place b.shape.cell b.shape.there) ∙ b.shape.same_width;
       shown_control = IsOfControl-later n4.cells n5.cells out_valid.place named_grows.extends (record { cell = b.shape.cell; there = b.shape.there; control = b.shape.same_control });

@@ -14,7 +14,8 @@ use Rattle.stage_law.specs.Least.{HasStageRegister}
 use Rattle.stage_law.specs.Registers.{HeldSum, StageRegister, Telling, TellsRanges, bits_for, bits_of, needing}
 use Rattle.stage_law.specs.Streams.{Streams}
 use Rattle.chain_build.specs.Linear.{PrefixStream, prefix_range, register_of}
-use Rattle.chain_build.proofs.RegisterOn.{CarriesPrefix, IsRegisterOn}
+use Rattle.chain_build.specs.LinearOn.{IsRegisterOn}
+use Rattle.chain_build.proofs.RegisterOn.{CarriesPrefix}
 
 -- ---- the sum that needs a width is one of the sums
 

@@ -18,21 +18,12 @@ use Rattle.pipeline_balance.proofs.NumberedLemmas.{IsRegister-later}
 use Rattle.stage_law.specs.Range.{InClass}
 use Rattle.stage_law.specs.Registers.{HeldSum}
 use Rattle.chain_build.specs.Linear.{LinearRegister}
+use Rattle.chain_build.specs.LinearOn.{IsRegisterOn}
 
 -- in a run, however it is cut, one stream carries what elements make of the samples that the other carries
 abbrev pub CarriesPrefix : Cut → ℕ → List Element → List Cell → Stream → Stream → Type 0
 CarriesPrefix cut width elements cells from last =
     (inputs : ℕ → ℤ) (values : Values) (xs : List ℤ) → All (FitsWidth width) xs → IsRun cut cells inputs values → Carries values from (samples xs) → Carries values last (chain elements (samples xs))
-
--- what `IsRegisterIn` says, where a stream carries the samples
-pub record IsRegisterOn (width : ℕ) (cells : List Cell) (from : Stream) (r : LinearRegister) : Type 0 where
-  pub node : Node
-  pub group : ℕ
-  pub register : IsRegister cells node.place group r.name r.width
-  pub same : (inputs : ℕ → ℤ) (values whole : Values) (xs : List ℤ) → All (FitsWidth width) xs → IsRun cut_all cells inputs values → IsRun cut_control cells inputs whole
-      → Carries values from (samples xs) → Carries whole from (samples xs) → (t : ℕ) → values t node.place ≡ whole t node.place
-  pub holds : (s : HeldSum) → r.needed ≡ Some s → (inputs : ℕ → ℤ) (values : Values) (xs : List ℤ) → All (FitsWidth width) xs → IsRun cut_all cells inputs values → Carries values from (samples xs)
-      → (k : ℕ) → InClass s.class k → values (r.stream.offset + k * r.stream.period + s.lag) node.place ≡ filter s.form (chain r.stream.elements (samples xs)) (pos k)
 
 pub IsRegisterOn-later : {width : ℕ} {old new : List Cell} {from : Stream} {r : LinearRegister} → Extends old new → IsRegisterOn width old from r → IsRegisterOn width new from r
 IsRegisterOn-later extends on = record {

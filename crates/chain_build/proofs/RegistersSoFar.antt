@@ -1,7 +1,7 @@
 -- The linear registers of the groups that were added so far.
 use Rattle.std.proofs.Common.{◌≡◌, ◌⊎◌, ℕ, zero, suc, ◌+◌, ◌<◌, ◌≤◌, Bool, true, false, if◌then◌else◌, List, [], ◌∷◌, ◌++◌, length, map, take, append_assoc, Some, slice_get, refl, sym, ◌∙◌, ap, subst, arith, inl, inr}
 use Rattle.mr_values.specs.declared.plan.Element.{Element}
-use Rattle.mr_values.specs.Timing.{Group, Fir, DownCic, UpCic, Rounding, Stream as Timed, groups, input, after}
+use Rattle.mr_values.specs.Timing.{Group, Fir, DownCic, UpCic, Rounding, Stream as Timed, groups, input, after, last_stream}
 use Rattle.net_graph.specs.declared.cell.Cell.{Cell}
 use Rattle.net_graph.specs.declared.cell.Stream.{Stream}
 use Rattle.net_graph.specs.declared.name.Name.{Name}
@@ -10,11 +10,12 @@ use Rattle.net_graph.specs.Grow.{Extends}
 use Rattle.net_graph.specs.WellFormed.{IsFree}
 use Rattle.plan_check.specs.Groups.{size_of}
 use Rattle.chain_build.specs.Built.{rounds, has_rounding}
-use Rattle.chain_build.specs.Linear.{LinearRegister, PrefixStream, linear, linear_from, register_of, group_registers, is_linear_number}
+use Rattle.chain_build.specs.Linear.{LinearRegister, PrefixStream, linear, linear_from, register_of, group_registers, is_linear_number, output_register, is_linear_group}
 use Rattle.chain_build.specs.LinearNet.{IsListed}
 use Rattle.chain_build.proofs.Prefixes.{sizes, sizes-more}
 use Rattle.chain_build.proofs.Roundings.{has_rounding-more}
-use Rattle.chain_build.proofs.RegisterOn.{IsRegisterOn, IsRegisterOn-later}
+use Rattle.chain_build.specs.LinearOn.{IsRegisterOn, HasGroupRegisters, output_registers}
+use Rattle.chain_build.proofs.RegisterOn.{IsRegisterOn-later}
 
 -- ---- lists one behind another
 
@@ -158,3 +159,37 @@ module _ {width ticks : ℕ} {whole : List Element} {old new : List Cell} {from 
 
   pub RegistersSoFar-next : RegistersSoFar width ticks whole new from (front ++ g ∷ []) others (after g s) (number + 1)
   RegistersSoFar-next = by (has_rounding front) (rounds g) refl refl
+
+-- ---- all groups
+
+linear-below : (gs : List Group) (n : ℕ) → is_linear_group gs n ≡ true → n < length gs
+linear-below [] n is = absurd (cc)
+linear-below (Rounding shift mode ∷ gs) n is = absurd (cc)
+linear-below (Fir u f d ∷ gs) zero is = omega arith
+linear-below (DownCic a b c ∷ gs) zero is = omega arith
+linear-below (UpCic a b c ∷ gs) zero is = omega arith
+linear-below (Fir u f d ∷ gs) (suc n) is = let h = linear-below gs n is in omega (arith, h)
+linear-below (DownCic a b c ∷ gs) (suc n) is = let h = linear-below gs n is in omega (arith, h)
+linear-below (UpCic a b c ∷ gs) (suc n) is = let h = linear-below gs n is in omega (arith, h)
+
+number-below : (gs : List Group) (n : ℕ) → is_linear_number gs n ≡ true → n < 1 + length gs
+number-below gs zero is = absurd (cc)
+number-below gs (suc n) is = let h = linear-below gs n is in omega (arith, h)
+
+-- what is still to come behind all groups is the output's register
+coming-none : (width ticks : ℕ) (whole : List Element) (number taken : ℕ) (b : Bool) → has_rounding (groups whole) ≡ b
+    → coming b width whole number taken (last_stream width ticks whole) [] ≡ output_registers width ticks whole
+coming-none width ticks whole number taken true is =
+    sym (ap (λ (b : Bool). if b then [] else register_of width 0 (record { elements = whole; period = (last_stream width ticks whole).period; offset = (last_stream width ticks whole).offset }) output_register ∷ []) is)
+coming-none width ticks whole number taken false is =
+    sym (ap (λ (b : Bool). if b then [] else register_of width 0 (record { elements = whole; period = (last_stream width ticks whole).period; offset = (last_stream width ticks whole).offset }) output_register ∷ []) is)
+
+pub RegistersSoFar-end : {width ticks : ℕ} {whole : List Element} {cells : List Cell} {from : Stream} {rest : List Group} {number : ℕ} → RegistersSoFar width ticks whole cells from (groups whole) rest (last_stream width ticks whole) number → rest ≡ []
+    → number ≡ 1 + length (groups whole) → HasGroupRegisters width ticks whole cells from
+RegistersSoFar-end {width} {ticks} {whole} {cells} {from} {rest} {number} so none count = record {
+  listed = so.listed;
+  parts = ap (λ (rs : List LinearRegister). so.listed ++ rs) (sym (coming-none width ticks whole number (sizes (groups whole)) (has_rounding (groups whole)) refl))
+      ∙ ap (λ (gs : List Group). so.listed ++ coming (has_rounding (groups whole)) width whole number (sizes (groups whole)) (last_stream width ticks whole) gs) (sym none) ∙ so.parts;
+  each = so.each;
+  only = λ name taken other some is. so.only name (record { taken = taken; is_data = other; some = some; below = let b = number-below (groups whole) name.group is in omega (arith, b, count); linear_group = is });
+}

@@ -48,3 +48,10 @@ rounded-more front g a b before own = either a b ∙ ap (λ (c : Bool). cond c t
     either : (a b : Bool) → (a || b) ≡ cond a true b
     either true b = refl
     either false b = refl
+
+pub unrounded-plain : (gs : List Group) → has_rounding gs ≡ false → ArePlainGroups gs
+unrounded-plain [] none = tt
+unrounded-plain (Fir up filter down ∷ gs) none = (tt, unrounded-plain gs none)
+unrounded-plain (DownCic factor stages delay ∷ gs) none = (tt, unrounded-plain gs none)
+unrounded-plain (UpCic factor stages delay ∷ gs) none = (tt, unrounded-plain gs none)
+unrounded-plain (Rounding shift mode ∷ gs) none = absurd (cc)

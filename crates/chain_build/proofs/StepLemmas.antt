@@ -41,7 +41,8 @@ use Rattle.chain_build.specs.LinearNet.{IsListed}
 use Rattle.chain_build.proofs.ExactPrefixes.{prefix-linear, prefix-tells}
 use Rattle.chain_build.proofs.Prefixes.{sizes, chain-first}
 use Rattle.chain_build.proofs.RegisterLemmas.{register_on}
-use Rattle.chain_build.proofs.RegisterOn.{CarriesPrefix, IsRegisterOn}
+use Rattle.chain_build.specs.LinearOn.{IsRegisterOn}
+use Rattle.chain_build.proofs.RegisterOn.{CarriesPrefix}
 use Rattle.chain_build.proofs.RegistersSoFar.{stream_at, own_registers, IsLinearTaken, IsOwn, IsStep}
 use Rattle.chain_build.proofs.Samples.{the_samples}
 use Rattle.chain_build.proofs.SoFar.{SoFar}

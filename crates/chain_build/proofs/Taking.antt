@@ -46,3 +46,9 @@ module _ {plan : Plan} {old net : NetView} {from last : Stream} {rest : List Ele
   pub holds_before : (rounded : Bool) (v : Sequence) → AreSamples (size plan.width) v → streams_before rounded (size plan.width) (elements_before plan fact) fact.span_lo fact.span_hi (so.done v)
   holds_before true v h = rw (span_low so split, span_high so split) (so.inside v h)
   holds_before false v h = subst (λ (n : ℕ). IsStream (chain (take n plan.elements)) (size plan.width) (so.done v)) (sym taken-is) (holds_prefix so split v h)
+
+  -- before any rounding they are exactly what the elements so far make of samples
+  pub exact_streams : (rounded : Bool) → rounded ≡ has_rounding front → has_rounding front ≡ false
+      → streams_before rounded (size plan.width) (elements_before plan fact) fact.span_lo fact.span_hi ≡ IsStream (chain (take (sizes front) plan.elements)) (size plan.width)
+  exact_streams true is none = absurd (let e : true ≡ false = is ∙ none in cc)
+  exact_streams false is none = ap (λ (n : ℕ). IsStream (chain (take n plan.elements)) (size plan.width)) taken-is

@@ -5,5 +5,6 @@ pub mod Extremes
 pub mod GroupCosts
 pub mod Linear
 pub mod LinearNet
+pub mod LinearOn
 pub mod Output
 pub mod Prefixes

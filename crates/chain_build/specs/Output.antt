@@ -1,14 +1,14 @@
 -- The output register, and the bit that is shown as `out_valid`.
-use Rattle.std.specs.Prelude.{◌≡◌, ℕ, ◌+◌, ◌<◌, ℤ, pos, List, length, Some}
+use Rattle.std.specs.Prelude.{◌≡◌, ◌⊎◌, ℕ, ◌+◌, ◌<◌, ℤ, pos, List, length, Some}
 use Rattle.mr_values.specs.Sequence.{Sequence}
 use Rattle.mr_values.specs.Width.{FitsWidth, IsLeastWidth}
 use Rattle.net_graph.specs.declared.cell.Cell.{Cell}
 use Rattle.net_graph.specs.declared.cell.Node.{Node}
 use Rattle.net_graph.specs.declared.cell.Stream.{Stream}
-use Rattle.net_graph.specs.declared.name.NameKind.TheVariants.{Output, Valid}
+use Rattle.net_graph.specs.declared.name.NameKind.TheVariants.{Control, Output, Valid}
 use Rattle.net_graph.specs.Cells.{NetView, cell_at}
 use Rattle.net_graph.specs.Control.{IsOfControl}
-use Rattle.net_graph.specs.Cut.{Cut, IsCut}
+use Rattle.net_graph.specs.Cut.{Cut, IsCut, cut_all, cut_control}
 use Rattle.net_graph.specs.Grow.{Grows}
 use Rattle.net_graph.specs.Run.{Values, IsRun}
 use Rattle.pipeline_balance.specs.Costs.{SameAdders, SameNamed}
@@ -33,6 +33,12 @@ TakesOver cells from width register =
     (cut : Cut) → IsCut cut → (inputs : ℕ → ℤ) (values : Values) (v : Sequence) → ((k : ℕ) → FitsWidth width (v (pos k))) → IsRun cut cells inputs values → Carries values from v
     → Carries values (record { node = register; period = from.period; offset = from.offset + 1 }) v
 
+-- the register has the same value in the run and in the uncut run, where the stream carries in both what fits it
+abbrev pub IsKeptWhole : List Cell → Stream → ℕ → Node → Type 0
+IsKeptWhole cells from width register =
+    (inputs : ℕ → ℤ) (values whole : Values) (v : Sequence) → ((k : ℕ) → FitsWidth width (v (pos k))) → IsRun cut_all cells inputs values → IsRun cut_control cells inputs whole
+    → Carries values from v → Carries whole from v → (t : ℕ) → values t register.place ≡ whole t register.place
+
 -- The output register has the least width that holds the span, and carries the stream one tick later; the bit shown as `out_valid` is
 -- set exactly at these ticks. No stage's group has more adders, and no group more window registers or tables.
 pub record AddsOutputs (low high : ℤ) (old new : NetView) (from : Stream) (outputs : Outputs) : Type 0 where
@@ -42,6 +48,8 @@ pub record AddsOutputs (low high : ℤ) (old new : NetView) (from : Stream) (out
   pub group : ℕ
   pub register : IsRegister new.cells outputs.out_q.place group (name_of 0 Output 0) width
   pub carries : TakesOver new.cells from width outputs.out_q
+  pub kept_whole : IsKeptWhole new.cells from width outputs.out_q
+  pub names : LeavesFree old.cells new.cells (λ name. (name.group ≡ 0) ⊎ (name.kind ≡ Control))
   pub shown : (cell_at new.cells outputs.out_valid.place).name ≡ Some (name_of 0 Valid 0)
   pub shown_width : (cell_at new.cells outputs.out_valid.place).width ≡ 1
   pub shown_control : IsOfControl new.cells outputs.out_valid.place

@@ -10,6 +10,7 @@ ghost use Rattle.chain_build.specs.Built.{are_built, is_built, is_parallel, has_
 ghost use Rattle.chain_build.specs.ChainNet.{IsChainNet};
 ghost use Rattle.chain_build.specs.GroupCosts.{HasCosts};
 ghost use Rattle.chain_build.specs.Linear.{output_range};
+ghost use Rattle.chain_build.specs.LinearNet.{HasLinearRegisters};
 
 use crate::groups::{GroupCost, add_groups};
 use crate::output::add_outputs;
@@ -95,6 +96,9 @@ pub fn build(alloc: Global, plan: &Plan, facts: &Facts) -> Result<Built, Memory>
     requires are_facts { AreFacts (size plan.now.width) (size plan.now.ticks) plan.now.elements facts.now }
     requires built { are_built plan.now.elements ≡ true }
     ensures chain { IfOk result (λ b. IsChainNet (size plan.now.width) (size plan.now.ticks) plan.now.elements b.net b.out_q b.out_valid) }
+
+    // The linear registers of the plan, by their names, widths and sums.
+    ensures registers { IfOk result (λ b. HasLinearRegisters (size plan.now.width) (size plan.now.ticks) plan.now.elements b.net) }
 
     // The form of each group, and what it costs in adders, window registers and tables.
     ensures costs { IfOk result (λ b. HasCosts (groups plan.now.elements) b.costs.items b.net) }

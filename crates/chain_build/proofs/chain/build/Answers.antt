@@ -11,7 +11,12 @@ use Rattle.chain_build.specs.Added.{IsChained}
 use Rattle.chain_build.specs.ChainNet.{IsChainNet}
 use Rattle.chain_build.specs.GroupCosts.{HasCosts}
 use Rattle.chain_build.specs.Output.{AddsOutputs}
-use Rattle.chain_build.proofs.ChainLemmas.{empty, built-groups, bound3, chain_net, chain_costs}
+use Rattle.net_graph.specs.Cut.{cut_all}
+use Rattle.net_graph.proofs.CutLemmas.{IsCut-all}
+use Rattle.chain_build.specs.LinearNet.{HasLinearRegisters}
+use Rattle.chain_build.specs.LinearOn.{HasGroupRegisters}
+use Rattle.chain_build.proofs.ChainLemmas.{empty, built-groups, bound3, chain_net, chain_costs, over, carried_from, shows}
+use Rattle.chain_build.proofs.LinearBuilt.{has_linear}
 use Rattle.plan_laws.proofs.Passes.{passes_of}
 use Rattle.stage_law.specs.declared.ranges.Range.{Range}
 use Rattle.chain_build.proofs.ExactPrefixes.{unrounded-linear}
@@ -54,4 +59,7 @@ returns c =
     record {
       chain = subst (λ (cells : List Cell). IsChainNet W T es cells c.in_ok-outputs.outputs.out_q c.in_ok-outputs.outputs.out_valid) (sym c.in-Ok.ensures.ok) (chain_net W T es wide first chained linear outs formed);
       costs = subst (λ (cells : List Cell). HasCosts (groups es) c.in_ok-chained.chained.costs.items cells) (sym c.in-Ok.ensures.ok) (chain_costs W T es wide first chained linear outs formed c.in_ok-chained.ensures.costs);
+      registers = subst (λ (cells : List Cell). HasLinearRegisters W T es cells) (sym c.in-Ok.ensures.ok)
+          (has_linear W T es wide first chained outs (over W T es wide first chained linear outs) (carried_from W T es wide first chained linear outs) (shows W T es wide first chained linear outs cut_all IsCut-all chained.carries) formed
+          (subst (λ (p : ℕ). HasGroupRegisters W T es c.add_groups.new.net.cells (record { node = c.in_ok-node.node; period = p; offset = 0 })) c.ticks_of.ensures c.in_ok-chained.ensures.registers));
     }
