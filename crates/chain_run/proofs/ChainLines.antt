@@ -13,7 +13,8 @@ use Rattle.verilog_tree.specs.Circuit.{IsSettling, with_inputs, next}
 use Rattle.verilog_tree.specs.Cycle.{circuit_of}
 use Rattle.verilog_tree.specs.Shown.{Cycle, Event, RunsOver, inputs_of, ports_of, events_of}
 use Rattle.net_module.specs.Steps.{pair_of, ticks_in}
-use Rattle.filter_text.specs.Headline.{IsRunFrom, ShowsChain, outputs_from, outputs_within, samples_in}
+use Rattle.filter_text.specs.Headline.{ShowsChain, outputs_from, outputs_within}
+use Rattle.filter_text.specs.Runs.{IsRunFrom, samples_in}
 use Rattle.sample_file.specs.declared.fault.LineFault.{LineFault}
 use Rattle.sample_file.specs.declared.row.Row.{Row}
 use Rattle.sample_file.specs.Ranges.{Checked, checked, item_then, sample_of, samples_of}

@@ -9,7 +9,7 @@ use Rattle.mr_values.proofs.WidthLemmas.{pattern-lt, signed-pattern, pattern-zer
 use Rattle.sample_file.specs.declared.fault.LineFault.{LineFault}
 use Rattle.net_module.specs.Steps.{HasNoReset, tick_data, ticks_in}
 use Rattle.verilog_tree.specs.Shown.{Cycle, EachFits}
-use Rattle.filter_text.specs.Headline.{samples_in}
+use Rattle.filter_text.specs.Runs.{samples_in}
 use Rattle.chain_run.specs.declared.timing.ChainTiming.{ChainTiming}
 use Rattle.chain_run.specs.Outputs.{IsTiming, value_count}
 use Rattle.chain_run.specs.Ticks.{tick_of, zeros, ticks_to_show, end_tick, ticks_from}

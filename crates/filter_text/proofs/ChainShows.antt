@@ -23,7 +23,8 @@ use Rattle.net_module.specs.Written.{written_module, output_place, valid_place}
 use Rattle.net_module.specs.Steps.{tick_data, ticks_in, samples_of, width_in, RunsAfterReset, ShowsAs, outputs_from as shown_from}
 use Rattle.chain_build.specs.ChainNet.{HasSamples, IsChainNet}
 use Rattle.module_laws.proofs.Places.{same_shapes, same_circuits, same_ports}
-use Rattle.filter_text.specs.Headline.{outputs_within, samples_in, IsRunFrom, ShowsChain}
+use Rattle.filter_text.specs.Headline.{outputs_within, ShowsChain}
+use Rattle.filter_text.specs.Runs.{samples_in, IsRunFrom}
 use Rattle.filter_text.proofs.ChainOutputs.{all_outputs}
 use Rattle.filter_text.proofs.ChainPlaces.{output_is, valid_is, input_width}
 use Rattle.filter_text.proofs.ReadModules.{input_port}

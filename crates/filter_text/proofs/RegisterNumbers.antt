@@ -26,7 +26,7 @@ use Rattle.net_module.proofs.Cycles.{wide_of, width_of, sign_of, signal_of, regi
 use Rattle.net_module.proofs.Outputs.{shows_as, signed_value-true}
 use Rattle.chain_build.specs.ChainNet.{IsChainNet}
 use Rattle.uncut_module.proofs.Along.{steps_uncut}
-use Rattle.filter_text.specs.Headline.{IsRunFrom}
+use Rattle.filter_text.specs.Runs.{IsRunFrom}
 use Rattle.filter_text.proofs.ChainPlaces.{input_width, chain_writable}
 use Rattle.filter_text.proofs.ChainShows.{of_written}
 use Rattle.filter_text.proofs.UncutPlaces.{same_kind, same_number, same_uncut_run}

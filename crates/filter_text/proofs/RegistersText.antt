@@ -31,7 +31,7 @@ use Rattle.chain_build.specs.ChainNet.{IsChainNet}
 use Rattle.chain_build.specs.Linear.{LinearRegister, linear, is_linear_group, is_linear_number}
 use Rattle.chain_build.specs.LinearNet as net_registers
 use Rattle.chain_build.specs.LinearNet.{IsRegisterIn, IsListed}
-use Rattle.filter_text.specs.Headline.{samples_in, IsRunFrom}
+use Rattle.filter_text.specs.Runs.{samples_in, IsRunFrom}
 use Rattle.filter_text.specs.Registers.{register_number, IsLinearRegister, IsNamedIn, HasLinearRegisters}
 use Rattle.filter_text.proofs.ChainShows.{has_samples, samples_fit}
 use Rattle.filter_text.proofs.CountedText.{few_groups}

@@ -13,7 +13,7 @@ use Rattle.verilog_tree.specs.Tree.{Design}
 use Rattle.net_module.specs.Steps.{tick_data, ticks_in}
 use Rattle.chain_build.specs.Extremes.{IsExtremeInput}
 use Rattle.chain_build.specs.Linear.{LinearRegister}
-use Rattle.filter_text.specs.Headline.{samples_in}
+use Rattle.filter_text.specs.Runs.{samples_in}
 use Rattle.filter_text.specs.Registers.{IsLinearRegister, ReadsSamples, IsExtremeOf}
 use Rattle.filter_text.proofs.ChainShows.{has_samples, signed_zero}
 

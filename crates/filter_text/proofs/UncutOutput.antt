@@ -20,7 +20,8 @@ use Rattle.net_module.specs.Written.{has_kind, is_output_kind, is_register, writ
 use Rattle.net_module.specs.Steps.{ticks_in, samples_of}
 use Rattle.chain_build.specs.Built.{ArePlainGroups}
 use Rattle.chain_build.specs.ChainNet.{IsChainNet, ShowsValues}
-use Rattle.filter_text.specs.Headline.{samples_in, IsRunFrom, output_register, KeepsOutput}
+use Rattle.filter_text.specs.Headline.{output_register, KeepsOutput}
+use Rattle.filter_text.specs.Runs.{samples_in, IsRunFrom}
 use Rattle.filter_text.proofs.ChainPlaces.{output_is}
 use Rattle.filter_text.proofs.ChainShows.{has_samples, samples_fit}
 use Rattle.filter_text.proofs.OutputNumber.{output_number}

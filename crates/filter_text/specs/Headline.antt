@@ -16,6 +16,8 @@ use Rattle.verilog_tree.specs.Tree.{Design}
 use Rattle.verilog_tree.specs.Uncut.{Numbers, IsUncutRun, number_at}
 use Rattle.verilog_text.specs.Reading.{Reads}
 use Rattle.net_module.specs.Steps.{HasNoReset, tick_data, ticks_in, pair_of}
+use Rattle.filter_text.specs.Runs.{samples_in, IsRunFrom}
+use Rattle.filter_text.specs.Registers.{HasLinearRegisters}
 use Rattle.chain_build.specs.Added.{HasFacts}
 use Rattle.chain_build.specs.Built.{ArePlainGroups}
 use Rattle.chain_build.specs.Linear.{output_range}
@@ -29,17 +31,6 @@ outputs_from latency period value n (suc count) = (latency + n * period, value n
 -- all outputs whose ticks lie below a number of ticks
 abbrev pub outputs_within : ℕ → ℕ → (ℕ → ℤ) → ℕ → List (ℕ × ℤ)
 outputs_within latency period value ticks = outputs_from latency period value 0 (ceil_div (ticks - latency) period)
-
--- the samples of a run with one sample in so many ticks: `in_data` at the ticks 0, ticks, 2 * ticks, .., read as signed
-abbrev pub samples_in : ℕ → ℕ → List Cycle → List ℤ
-samples_in width ticks cycles = phase ticks 0 (map (signed width) (tick_data cycles))
-
--- the cycles of a run, of which this is the last reset cycle, and the settled values of each
-pub record IsRunFrom (d : Design) (width : ℕ) (content : Values) (before after : List Cycle) (reset : Cycle) (settled : List Values) : Type 0 where
-  pub run : RunsOver d content (before ++ reset ∷ after) settled
-  pub is_reset : reset.rst ≡ true
-  pub last : HasNoReset after
-  pub fit : EachFits width after
 
 -- what is shown in the cycles before a reset cycle, and in those after it
 abbrev pub events_before : Design → List Cycle → List Values → List Event
@@ -88,8 +79,8 @@ AreCounted number [] d = Unit {0}
 AreCounted number (g ∷ gs) d = IsCounted g number d × AreCounted (number + 1) gs d
 
 -- the module passes every check, from any content it runs over any cycles, cut and uncut, its output has the least width for the range
--- of the chain's values, it shows the chain, and its groups cost what they cost as stages, with at most one adder between two registers; where
--- no group rounds, its output register is never cut
+-- of the chain's values, it shows the chain, its linear registers are those of the plan, none of them ever cut after a reset, and its groups
+-- cost what they cost as stages, with at most one adder between two registers; where no group rounds, its output register is never cut
 pub record IsModuleOf (elements : List Element) (width ticks latency period : ℕ) (design : Design) : Type 0 where
   pub passes : Passes design
   pub runs : HasRuns design
@@ -97,6 +88,7 @@ pub record IsModuleOf (elements : List Element) (width ticks latency period : �
   pub output : IsLeastWidth (output_range width ticks elements).lo (output_range width ticks elements).hi ((shapes_of design).width (ports_of design).out_data)
   pub shows : ShowsChain elements width ticks latency period design
   pub uncut : ArePlainGroups (groups elements) → KeepsOutput elements width ticks latency period design
+  pub registers : HasLinearRegisters elements width ticks design
   pub costs : AreCounted 1 (groups elements) design
 
 -- the bytes read as one module, which is that of the chain

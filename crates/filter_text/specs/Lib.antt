@@ -1,4 +1,5 @@
 pub mod Headline
 pub mod Registers
+pub mod Runs
 pub mod Written
 pub mod Extremes

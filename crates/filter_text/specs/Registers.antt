@@ -16,7 +16,7 @@ use Rattle.verilog_tree.specs.Tree.{Design}
 use Rattle.verilog_tree.specs.Uncut.{Numbers, IsUncutRun, number_at}
 use Rattle.net_module.specs.Steps.{tick_data, ticks_in}
 use Rattle.chain_build.specs.Linear.{LinearRegister, linear, is_linear_number}
-use Rattle.filter_text.specs.Headline.{IsRunFrom, samples_in}
+use Rattle.filter_text.specs.Runs.{IsRunFrom, samples_in}
 
 -- the number of a register's name
 abbrev pub register_number : Design → LinearRegister → ℕ

@@ -20,6 +20,7 @@ use Rattle.filter_text.proofs.ChainShows.{chain_shows}
 use Rattle.filter_text.proofs.UncutOutput.{keeps_output}
 use Rattle.plan_laws.proofs.Passes.{passes_of}
 use Rattle.filter_text.proofs.CountedText.{chain_counted, chain_costs}
+use Rattle.filter_text.proofs.RegistersText.{registers_text}
 use Rattle.filter_text.proofs.ReadModules.{passing, running, output_width}
 use Rattle.filter_text.proofs.chain.chain_module.Goals as goal
 
@@ -53,6 +54,7 @@ returns c =
                 subst (λ (p : ℕ). KeepsOutput es W T c.args.facts.now.latency p d) (sym c.requires.are_facts.period_is)
                 (subst (λ (l : ℕ). KeepsOutput es W T l (last_stream W T es).period d) (sym c.requires.are_facts.latency_is)
                 (keeps_output (wide_plan c.args.plan.now c.requires.accepted) (narrow_plan c.args.plan.now c.requires.accepted) (some_ticks c.args.plan.now c.requires.accepted) net d as_written plain));
+            registers = registers_text (wide_plan c.args.plan.now c.requires.accepted) (narrow_plan c.args.plan.now c.requires.accepted) (some_ticks c.args.plan.now c.requires.accepted) net small d as_written few c.in_ok-built.ensures.registers;
             costs = chain_counted es c.in_ok-built.built.costs.items cells few net.netlist small has d as_written;
           };
       writable = subst (λ (d : Design). IsWritable limits d) (sym is) (has_text cells net.netlist can small);
