@@ -54,7 +54,7 @@ module _ {n1 n2 n3 : NetView} {node : Node} {stream : Stream} {outputs : Outputs
     (outs : AddsOutputs (output_range width ticks elements).lo (output_range width ticks elements).hi n2 n3 stream outputs)
     (over : RangesOver width elements (output_range width ticks elements))
     (carried : (cut : Cut) → IsCut cut → (inputs : ℕ → ℤ) (values : Values) (xs : List ℤ) → All (FitsWidth width) xs → HasSamples ticks inputs (samples xs) → IsRun cut n3.cells inputs values
-        → Carries values (record { node = node; period = ticks; offset = 0 }) (samples xs))
+    → Carries values (record { node = node; period = ticks; offset = 0 }) (samples xs))
     (shown : ShowsValues cut_all width ticks elements n3.cells outputs.out_q) where
   in_net : (r : LinearRegister) → IsRegisterOn width n2.cells (record { node = node; period = ticks; offset = 0 }) r → IsRegisterIn width ticks n3.cells r
   in_net r before =

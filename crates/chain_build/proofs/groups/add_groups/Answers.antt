@@ -15,9 +15,13 @@ use Rattle.chain_build.proofs.groups.add_groups.Goals as goal
 
 pub loop-fact-init : goal.loop-fact-init
 loop-fact-init c = (
-  ([], SoFar-plan c.args.plan.now c.args.facts.now c.args.net.now c.set_group.new.self c.args.from c.as_slice-rest.result.now c.as_slice-rest.ensures c.requires.within c.requires.nameless c.requires.offset c.requires.period c.requires.accepted c.requires.are_facts c.requires.built c.set_group.ensures, refl,
+  (
+    [],
+    SoFar-plan c.args.plan.now c.args.facts.now c.args.net.now c.set_group.new.self c.args.from c.as_slice-rest.result.now c.as_slice-rest.ensures c.requires.within c.requires.nameless c.requires.offset c.requires.period c.requires.accepted c.requires.are_facts c.requires.built c.set_group.ensures,
+    refl,
     subst (λ (es : List Element). RegistersSoFar (size c.args.plan.now.width) (size c.args.plan.now.ticks) c.args.plan.now.elements c.set_group.new.self.cells c.args.from [] (groups es) (input (size c.args.plan.now.width) (size c.args.plan.now.ticks)) 1) (sym c.as_slice-rest.ensures)
-        (RegistersSoFar-start (size c.args.plan.now.width) (size c.args.plan.now.ticks) c.args.plan.now.elements c.set_group.new.self.cells c.args.from)),
+        (RegistersSoFar-start (size c.args.plan.now.width) (size c.args.plan.now.ticks) c.args.plan.now.elements c.set_group.new.self.cells c.args.from),
+  ),
   CostsSoFar-first (groups c.args.plan.now.elements) (groups c.as_slice-rest.result.now) c.args.net.now c.set_group.new.self c.new-costs.result.items (ap groups c.as_slice-rest.ensures) c.set_group.ensures c.new-costs.ensures.items c.requires.bound c.requires.ungrouped c.requires.nameless,
 )
 

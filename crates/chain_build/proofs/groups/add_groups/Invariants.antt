@@ -11,5 +11,5 @@ use Rattle.chain_build.proofs.groups.add_groups.Given as goal
 abbrev pub invariant-loop-fact : goal.invariant-loop-fact
 invariant-loop-fact l =
     ((front : List Group) × SoFar (size l.plan.width) (size l.plan.ticks) l.plan.elements l.fn.net l.net l.fn.from l.last l.rest (drop l.fact-index l.facts.groups.items) l.number front × (l.rounded ≡ has_rounding front)
-        × RegistersSoFar (size l.plan.width) (size l.plan.ticks) l.plan.elements l.net.cells l.fn.from front (groups l.rest) (after_all front (input (size l.plan.width) (size l.plan.ticks))) l.number)
+    × RegistersSoFar (size l.plan.width) (size l.plan.ticks) l.plan.elements l.net.cells l.fn.from front (groups l.rest) (after_all front (input (size l.plan.width) (size l.plan.ticks))) l.number)
     × CostsSoFar (groups l.plan.elements) l.net.cells (groups l.rest) l.costs.items l.number
