@@ -1,5 +1,10 @@
-use Rattle.std.proofs.Common.{◌∙◌, refl}
+use Rattle.std.proofs.Common.{◌∙◌, inr, refl, sym, ap}
+use Rattle.std.specs.FinMap.{get}
+use Rattle.mr_values.specs.Files.{Files}
 use Rattle.std.proofs.lemmas.Result.{err_from_is_err_and}
+use Rattle.filter_core.specs.Ends.{IsThisFile, call_of}
+use Rattle.filter_core.specs.Sim.{IsTextOrStimulus}
+use Rattle.filter_core.proofs.EndSteps.{ends_after}
 use Rattle.filter_core.proofs.SimSteps.{sim_ends, sim_unread}
 use Rattle.filter_core.proofs.sim_command.sim.Goals as goal
 
@@ -17,3 +22,13 @@ returns-clause-told g c = λ told.
     let reading = c.in_ok-design.ensures.told told in
     sim_ends c.args.text.now c.args.stimulus.now c.args.out.now old.files c.in_ok-design.design c.in_ok-stream.stream reading.answer c.in_ok-stream.ensures c.stream_rows.result old (g.H.Host.state c.read_design.new.host)
     (g.H.Host.state c.stream_rows.new.host) refl reading.files (c.stream_rows.ensures.told (c.in_ok-design.ensures.cause.same_kind ∙ told))
+
+pub returns-clause-cause : goal.returns-clause-cause
+returns-clause-cause g c =
+    let text = c.args.text.now in
+    let stimulus = c.args.stimulus.now in
+    let old = g.H.Host.state c.args.host.now in
+    let middle = g.H.Host.state c.read_design.new.host in
+    let new = g.H.Host.state c.stream_rows.new.host in
+    ends_after (IsTextOrStimulus text stimulus) (IsThisFile text) (IsThisFile stimulus) (call_of c.stream_rows.result) old middle new c.in_ok-design.ensures.cause c.stream_rows.ensures.cause
+    (λ told (name, is, none). let read = c.in_ok-design.ensures.told told in (name, inr is, sym (ap (λ (files : Files). get files name) read.files) ∙ none))
