@@ -11,7 +11,9 @@ ghost use Rattle.chain_build.specs.ChainNet.{IsChainNet};
 ghost use Rattle.chain_build.specs.GroupCosts.{HasCosts};
 ghost use Rattle.chain_build.specs.Linear.{output_range};
 ghost use Rattle.chain_build.specs.LinearNet.{HasLinearRegisters};
+ghost use Rattle.chain_build.specs.Told.{TellsRegisters};
 
+use crate::extremes::RegisterExtreme;
 use crate::groups::{GroupCost, add_groups};
 use crate::output::add_outputs;
 use crate::prefix::{prefix_ranges, width_of};
@@ -21,13 +23,14 @@ use plan_check::Facts;
 use stage_law::{Class, Range, Ranges, WeightedSum};
 use std::alloc::Global;
 
-/// A net with its output register, the node that is shown as `out_valid`, and the cost of each group.
+/// A net with its output register, the node that is shown as `out_valid`, the cost of each group, and what drives the linear registers.
 #[derive(Drop)]
 pub struct Built {
     pub net: Netlist,
     pub out_q: Node,
     pub out_valid: Node,
     pub costs: Vec<GroupCost>,
+    pub extremes: Vec<RegisterExtreme>,
 }
 
 // Whether the form is that of one tree for each phase.
@@ -102,6 +105,9 @@ pub fn build(alloc: Global, plan: &Plan, facts: &Facts) -> Result<Built, Memory>
 
     // The form of each group, and what it costs in adders, window registers and tables.
     ensures costs { IfOk result (λ b. HasCosts (groups plan.now.elements) b.costs.items b.net) }
+
+    // For each linear register that needs more than one bit a value that needs all of its bits, and when some samples drive it there.
+    ensures extremes { IfOk result (λ b. TellsRegisters (size plan.now.width) (size plan.now.ticks) plan.now.elements b.net b.extremes.items) }
 {
     let mut net = Net::new(alloc);
     let node = net.input(width_of(plan))?;
@@ -119,6 +125,7 @@ pub fn build(alloc: Global, plan: &Plan, facts: &Facts) -> Result<Built, Memory>
             out_q: outputs.out_q,
             out_valid: outputs.out_valid,
             costs: chained.costs,
+            extremes: chained.extremes,
         }),
         Err(_) => unreachable!(),
     }

@@ -20,6 +20,7 @@ ghost use Rattle.chain_build.specs.Added.{IsTaking, IsGroupAdded, AreNameless, I
 ghost use Rattle.chain_build.specs.GroupCosts.{AreUngrouped, AreApart, HasCosts};
 
 use crate::cascades::{down_group, up_group};
+use crate::extremes::RegisterExtreme;
 use crate::prefix::prefix_ranges;
 use mr_values::{Memory, Plan};
 use net_graph::{Net, Stream};
@@ -50,6 +51,7 @@ pub(crate) struct Chained {
     pub(crate) stream: Stream,
     pub(crate) rounded: bool,
     pub(crate) costs: Vec<GroupCost>,
+    pub(crate) extremes: Vec<RegisterExtreme>,
 }
 
 /// Adds the nodes of a stage.
@@ -287,5 +289,6 @@ pub(crate) fn add_groups(
         stream: last,
         rounded,
         costs,
+        extremes: Vec::new(alloc),
     })
 }

@@ -3,11 +3,13 @@
 
 mod cascades;
 mod chain;
+mod extremes;
 mod groups;
 mod output;
 mod prefix;
 
 pub use chain::{Built, build, can_build};
+pub use extremes::{RegisterExtreme, RegisterSamples, register_extreme};
 pub use groups::GroupCost;
 
 #[cfg(test)]

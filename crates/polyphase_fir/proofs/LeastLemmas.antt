@@ -1,5 +1,5 @@
 -- The registers of a filter are those of its list, and have the least widths.
-use Rattle.std.proofs.Common.{◌≡◌, ℕ, zero, suc, ◌+◌, ◌-◌, ◌*◌, ◌<◌, ◌≤◌, List, [], ◌∷◌, ◌++◌, length, map, refl, sym, ◌∙◌, ap, arith, inl, inr, subst, ◌⊎◌, ℤ, pos, ◌-ℤ◌, Some, slice_get}
+use Rattle.std.proofs.Common.{◌≡◌, ℕ, zero, suc, ◌+◌, ◌-◌, ◌*◌, ◌<◌, ◌≤◌, max, List, [], ◌∷◌, ◌++◌, length, map, refl, sym, ◌∙◌, ap, arith, inl, inr, subst, ◌⊎◌, ℤ, pos, ◌-ℤ◌, Some, slice_get}
 use Rattle.std.proofs.lemmas.Bool.{cases_lt}
 use Rattle.std.proofs.lemmas.Int.{ints}
 use Rattle.std.proofs.lemmas.List.{map-append, length-map}
@@ -20,7 +20,7 @@ use Rattle.stage_law.specs.Facts.{StageFacts}
 use Rattle.stage_law.specs.Least.{IsKeptWhole, HoldsSum, HasStageRegister, IsListed, IsTimely, HasRegisters, named_peak}
 use Rattle.stage_law.specs.Realises.{IsUnused}
 use Rattle.stage_law.specs.Registers.{HeldSum, StageRegister, Telling, TellsRanges, NamedPeak, peaks_of}
-use Rattle.stage_law.specs.Streams.{Streams}
+use Rattle.stage_law.specs.Streams.{Streams, magnitudes}
 use Rattle.stage_law.specs.declared.ranges.Class.{Class}
 use Rattle.stage_law.specs.declared.stage.Peak.{Peak}
 use Rattle.polyphase_fir.specs.declared.held.Held.{Held}
@@ -73,8 +73,8 @@ stage_register streams cells from depth levels group kind number s node positive
 }
 
 timely : (facts : StageFacts) (streams : Streams) (cells : List Cell) (from : Stream) (depth levels group : ℕ) (kind : NameKind) (number : ℕ) (s : HeldSum) (node : Node) → IsDue streams cells from depth levels group (name_of group kind number) s node
-    → suc levels ≤ from.period + facts.delay from.period → depth ≤ facts.longest → IsTimely facts from.period s
-timely facts streams cells from depth levels group kind number s node d soon few =
+    → suc levels ≤ from.period + facts.delay from.period → depth ≤ facts.longest → magnitudes s.form ≤ max 1 (2 * facts.gain) → IsTimely facts from.period s
+timely facts streams cells from depth levels group kind number s node d soon few small =
     let lag = d.is_lag in
     let early = d.soon in
     let short = d.short in
@@ -82,6 +82,7 @@ timely facts streams cells from depth levels group kind number s node d soon few
       class = subst (λ (c : Class). c.residue < c.modulus) (sym d.is_class) (omega arith);
       soon = omega (arith, lag, early, soon);
       short = omega (arith, short, few);
+      small = small;
       times = facts.down;
       divides = subst (λ (c : Class). facts.down ≡ facts.down * c.modulus) (sym d.is_class) (omega arith);
     }
@@ -143,12 +144,14 @@ module _ (streams : Streams) (before cells : List Cell) (group : ℕ) (from : St
       ∙ ap (λ (ss : List HeldSum). peaks_of range group (numbered kind 0 ss)) h.same
 
   pub has_registers : (facts : StageFacts) → facts.registers from.period ≡ numbered Window 0 windows ++ numbered Register 0 trees → suc levels ≤ from.period + facts.delay from.period → depth ≤ facts.longest
-      → (peaks : List Peak) → peaks ≡ peaks_at values window ++ peaks_at held registers → HasRegisters facts streams cells group from peaks
-  has_registers facts e soon few peaks is = record {
+      → ((i j : ℕ) (r : StageRegister) (s : HeldSum) → slice_get (facts.registers from.period) i ≡ Some r → slice_get r.sums j ≡ Some s → magnitudes s.form ≤ max 1 (2 * facts.gain)) → (peaks : List Peak) → peaks ≡ peaks_at values window ++ peaks_at held registers → HasRegisters facts streams cells group from peaks
+  has_registers facts e soon few small peaks is = record {
     some = λ i r there. each_due (λ r. 1 ≤ length r.sums) (λ kind number s node d. omega arith) i r (in_list i r there);
     timely = λ i j r s there at.
-        each_due (λ r. (j : ℕ) (s : HeldSum) → slice_get r.sums j ≡ Some s → IsTimely facts from.period s)
-        (λ kind number s node d j t at. only_one (IsTimely facts from.period) s j t at (timely facts streams cells from depth levels group kind number s node d soon few)) i r (in_list i r there) j s at;
+        each_due (λ r. (j : ℕ) (s : HeldSum) → slice_get r.sums j ≡ Some s → magnitudes s.form ≤ max 1 (2 * facts.gain) → IsTimely facts from.period s)
+        (λ kind number s node d j t at.
+        only_one (λ (h : HeldSum). magnitudes h.form ≤ max 1 (2 * facts.gain) → IsTimely facts from.period h) s j t at (timely facts streams cells from depth levels group kind number s node d soon few))
+        i r (in_list i r there) j s at (small i j r s there at);
     each = λ i r there. each_due (HasStageRegister streams cells group from) (λ kind number s node d. stage_register streams cells from depth levels group kind number s node positive d) i r (in_list i r there);
     only = λ kind number apart used. subst (λ (rs : List StageRegister). IsListed rs kind number) (sym e) (taken_name kind number apart used);
     told = λ range tells.

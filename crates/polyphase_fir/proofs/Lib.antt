@@ -12,6 +12,7 @@ pub mod UnitLemmas
 pub mod DueLemmas
 pub mod PeakLemmas
 pub mod ListLemmas
+pub mod SmallLemmas
 pub mod LeastLemmas
 pub mod RootLemmas
 pub mod ShownLemmas

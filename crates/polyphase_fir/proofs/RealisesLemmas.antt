@@ -43,6 +43,7 @@ use Rattle.polyphase_fir.specs.Roots.{AddsRoots, IsShown}
 use Rattle.polyphase_fir.specs.Sums.{SumsWindow}
 use Rattle.polyphase_fir.proofs.DueLemmas.{IsDue-later, window_due}
 use Rattle.polyphase_fir.proofs.LeastLemmas.{has_registers}
+use Rattle.polyphase_fir.proofs.SmallLemmas.{registers_small}
 use Rattle.polyphase_fir.proofs.ListLemmas.{length-window_sums, window_sums-at}
 use Rattle.polyphase_fir.proofs.WidthsLemmas.{slice_get_some, slice_get_mapped}
 
@@ -118,7 +119,7 @@ Realises-phases {old} {first} {second} {new} {from} {stream} {window} {roots} {r
       registers = λ linear.
           has_registers streams old.cells new.cells old.group from (length window) levels (window_sums (ceil_div (length taps) up)) (phase_sums up taps (levels_of taps up) up) window registers values held positive
           (sym long ∙ sym (length-window_sums (ceil_div (length taps) up))) (subst (λ (n : ℕ). length registers ≡ length (phase_sums up taps n up)) levels_are r.many) values_are (subst (λ (n : ℕ). AreHeld streams (phase_sums up taps n up) held) levels_are held_are)
-          windows_due trees_due window_count tree_count touched_names unused facts refl (omega (arith, levels_are)) (omega (arith, long)) emitted.peaks.items peaks_are;
+          windows_due trees_due window_count tree_count touched_names unused facts refl (omega (arith, levels_are)) (omega (arith, long)) (registers_small taps up) emitted.peaks.items peaks_are;
     }
   where
     same : first.group ≡ old.group

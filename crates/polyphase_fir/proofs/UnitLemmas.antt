@@ -33,7 +33,7 @@ pub length-unit_form : (age : ℕ) → length (unit_form age) ≡ age + 1
 length-unit_form zero = refl
 length-unit_form (suc age) = let rest = length-unit_form age in omega (arith, rest)
 
-magnitudes-unit_form : (age : ℕ) → magnitudes (unit_form age) ≡ 1
+pub magnitudes-unit_form : (age : ℕ) → magnitudes (unit_form age) ≡ 1
 magnitudes-unit_form zero = refl
 magnitudes-unit_form (suc age) = let rest = magnitudes-unit_form age in omega (arith, rest)
 

@@ -1,5 +1,5 @@
 -- The registers of a linear stage in its net: each holds its sums, in the run as uncut, and has the least width for them.
-use Rattle.std.specs.Prelude.{◌≡◌, ℕ, ◌+◌, ◌*◌, ◌<◌, ◌≤◌, ℤ, pos, List, length, map, Some, slice_get}
+use Rattle.std.specs.Prelude.{◌≡◌, ℕ, ◌+◌, ◌*◌, ◌<◌, ◌≤◌, max, ℤ, pos, List, length, map, Some, slice_get}
 use Rattle.mr_values.specs.Sequence.{Sequence, filter}
 use Rattle.net_graph.specs.declared.cell.Cell.{Cell}
 use Rattle.net_graph.specs.declared.cell.Node.{Node}
@@ -15,7 +15,7 @@ use Rattle.pipeline_balance.specs.Numbered.{IsRegister, name_of}
 use Rattle.stage_law.specs.Facts.{StageFacts}
 use Rattle.stage_law.specs.Range.{InClass}
 use Rattle.stage_law.specs.Registers.{HeldSum, StageRegister, Telling, TellsRanges, NamedPeak, bits_of, peaks_of}
-use Rattle.stage_law.specs.Streams.{Streams}
+use Rattle.stage_law.specs.Streams.{Streams, magnitudes}
 use Rattle.stage_law.specs.Weights.{weights_of}
 use Rattle.stage_law.specs.declared.stage.Peak.{Peak}
 
@@ -50,11 +50,13 @@ pub record IsListed (registers : List StageRegister) (kind : NameKind) (number :
   pub is_kind : r.kind ≡ kind
   pub is_number : r.number ≡ number
 
--- a sum is due soon after its value, of few values, and at indices that the stage takes anew for each of its values
+-- a sum is due soon after its value, of few values, no greater than twice what the stage gives, or a single value, and at indices that the
+-- stage takes anew for each of its values
 pub record IsTimely (facts : StageFacts) (period : ℕ) (s : HeldSum) : Type 0 where
   pub class : s.class.residue < s.class.modulus
   pub soon : s.lag ≤ period + facts.delay period
   pub short : length s.form ≤ facts.longest
+  pub small : magnitudes s.form ≤ max 1 (2 * facts.gain)
   pub times : ℕ
   pub divides : facts.down ≡ times * s.class.modulus
 

@@ -1,8 +1,9 @@
 -- The finer class whose end is furthest out, and the index at which it is reached.
-use Rattle.std.proofs.Common.{◌≡◌, ◌∙◌, ℕ, zero, suc, ◌+◌, ◌-◌, ◌*◌, ◌<◌, refl, sym, ap, arith, subst, List, length, replicate, ℤ, pos, ◌⊎◌, inl, inr, Bool, true, false, length-append}
+use Rattle.std.proofs.Common.{◌≡◌, ◌∙◌, ℕ, zero, suc, ◌+◌, ◌-◌, ◌*◌, ◌<◌, refl, sym, ap, arith, subst, List, length, get_or, replicate, ℤ, pos, ◌⊎◌, inl, inr, Bool, true, false, length-append}
 use Rattle.std.proofs.lemmas.Int.{ints}
 use Rattle.std.proofs.lemmas.List.{length-replicate}
 use Rattle.mr_values.specs.Timing.{low_end}
+use Rattle.mr_values.specs.Value.{size}
 use Rattle.mr_values.specs.Width.{FitsWidth}
 use Rattle.stage_law.specs.Range.{InClass}
 use Rattle.stage_law.specs.Weights.{weights_of}
@@ -11,11 +12,11 @@ use Rattle.stage_law.specs.declared.ranges.WeightedSum.{WeightedSum}
 use Rattle.impulse_phase.specs.declared.table.Response.{Response as Table}
 use Rattle.impulse_phase.specs.Response.{through_filter}
 use Rattle.impulse_phase.specs.Reading.{rows_of, responses_of}
-use Rattle.impulse_phase.proofs.Ends.{high_end-turned}
+use Rattle.impulse_phase.proofs.Ends.{high_end-turned, length-tabulate}
 use Rattle.width_extreme.specs.Prefix.{least_sample, greatest_sample, low_at, high_at, range_of, finer_classes}
 use Rattle.width_extreme.specs.Walk.{IsLawful, IsLongest, needed_for}
 use Rattle.width_extreme.specs.Furthest.{end_of, end_at, IsFurther, near_end, far_end, samples_at, whole_of, IsPast, IsEndReached}
-use Rattle.width_extreme.proofs.Histories.{Chosen, chosen-reach, same-later, history-is}
+use Rattle.width_extreme.proofs.Histories.{Chosen, all_chosen, chosen-reach, same-later, history-is}
 use Rattle.width_extreme.proofs.Ranges.{least-fits, greatest-fits, finer-in_class, least_to-holds, least_to-reached, greatest_to-holds, greatest_to-reached}
 
 -- ---- the end that is furthest out, of those so far
@@ -96,6 +97,7 @@ far-end table width longest sum class high finer index value law long below furt
       };
       end = end-is high table width form class (finer_classes (length (rows_of table)) class.modulus) finer value (omega (arith, furthest.below)) furthest;
       soon = past.soon;
+      few = omega (arith, length-tabulate (suc reach.newest) (λ n. get_or (all_chosen (near_end high width) (far_end high width) (through_filter form (responses_of table) (pos index)).weights) (reach.newest - n) (pos 0)), ap size reach.newest_is);
     })
   where
     form : List ℤ

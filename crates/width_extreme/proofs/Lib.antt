@@ -2,9 +2,8 @@ pub mod Bounds
 pub mod Extremes
 pub mod FarEnds
 pub mod Finer
-pub mod FirstGroups
-pub mod Held
 pub mod Histories
+pub mod Indices
 pub mod Lawful
 pub mod Modest
 pub mod Ranges

@@ -1,5 +1,5 @@
 -- Samples that make a sum reach an end of its range.
-use Rattle.std.specs.Prelude.{◌≡◌, ℕ, zero, suc, ◌+◌, ◌-◌, ◌*◌, ◌^◌, ◌<◌, ◌≤◌, List, [], ◌∷◌, length, get_or, ℤ, pos, negsuc, ◌≤ℤ◌, Bool, true, false}
+use Rattle.std.specs.Prelude.{◌≡◌, ℕ, zero, suc, ◌+◌, ◌-◌, ◌*◌, ◌≤◌, List, [], ◌∷◌, length, get_or, ℤ, pos, negsuc, ◌≤ℤ◌, Bool, true, false}
 use Rattle.mr_values.specs.Value.{size}
 use Rattle.stage_law.specs.declared.ranges.Class.{Class}
 use Rattle.stage_law.specs.declared.ranges.Range.{Range}
@@ -59,10 +59,6 @@ samples_at table w form high index =
 abbrev pub whole_of : Table → Class → ℕ
 whole_of table class = finer_classes (length (rows_of table)) class.modulus * class.modulus
 
--- an index that has its whole history is a number of 64 bits
-pub record IsNear (table : Table) (longest : ℕ) (sum : WeightedSum) (class : Class) : Type 0 where
-  pub near : needed_for table longest sum.behind (length sum.weights.items) + whole_of table class < 2 ^ 64
-
 -- so many whole rounds after the first index, at least as far as is needed, and soon
 pub record IsPast (first whole needed index : ℕ) : Type 0 where
   pub rounds : ℕ
@@ -70,11 +66,12 @@ pub record IsPast (first whole needed index : ℕ) : Type 0 where
   pub enough : needed ≤ index
   pub soon : index ≤ needed + whole
 
--- The end of the range that is meant is reached at the index, which is of the class, and soon.
+-- The end of the range that is meant is reached at the index, which is of the class, and soon; no sample is later than the newest in the sum.
 pub record IsEndReached (table : Table) (width longest : ℕ) (sum : WeightedSum) (class : Class) (high : Bool) (xs : List ℤ) (index : ℕ) (value : ℤ) : Type 0 where
   pub reaches : IsExtreme (transform_of table) width (weights_of sum) class value xs index
   pub end : value ≡ end_of high (range_of width (weights_of sum) (responses_of table) class (finer_classes (length (rows_of table)) class.modulus))
   pub soon : index ≤ needed_for table longest sum.behind (length sum.weights.items) + whole_of table class
+  pub few : length xs ≤ suc (size (responses_of table (pos index)).newest)
 
 -- some samples do that
 pub record IsEndReachable (table : Table) (width longest : ℕ) (sum : WeightedSum) (class : Class) (high : Bool) (index : ℕ) (value : ℤ) : Type 0 where

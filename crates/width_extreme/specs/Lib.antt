@@ -1,4 +1,3 @@
-pub mod Chain
 pub mod Furthest
 pub mod Prefix
 pub mod Walk

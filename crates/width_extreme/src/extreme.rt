@@ -1,6 +1,6 @@
 //! Where a sum reaches an end of its range, and the samples that make it.
 
-ghost use Rattle.std.specs.Prelude.{◌≡◌, ℕ, ◌+◌, ◌*◌, ◌<◌, ◌≤◌, ◌^◌, ◌⊎◌, length, pos, true, IfOk};
+ghost use Rattle.std.specs.Prelude.{◌≡◌, ℕ, ◌+◌, ◌*◌, ◌/◌, ◌%◌, ◌<◌, ◌≤◌, ◌^◌, ◌⊎◌, length, pos, true, IfOk};
 ghost use Rattle.width_extreme.specs.Furthest.{IsFurther, IsPast};
 
 use crate::prefix::{Entry, PrefixRanges};
@@ -12,7 +12,7 @@ use std::alloc::Global;
 /// The index at which some samples make a sum reach an end of its range, and that end.
 #[derive(Clone, Copy, Debug, PartialEq, Eq)]
 pub struct Reached {
-    pub index: u64,
+    pub index: u128,
     pub value: i128,
 }
 
@@ -20,7 +20,7 @@ pub struct Reached {
 #[derive(Drop)]
 pub struct Extreme {
     pub samples: Vec<i64>,
-    pub index: u64,
+    pub index: u128,
     pub value: i128,
 }
 
@@ -36,15 +36,15 @@ impl PrefixRanges {
     ghost use Rattle.impulse_phase.specs.Reading.{rows_of, responses_of};
     ghost use Rattle.width_extreme.specs.Prefix.{finer_classes};
     ghost use Rattle.width_extreme.specs.Walk.{delay_at, needed_for, IsEntry, HasFormRoom};
-    ghost use Rattle.width_extreme.specs.Furthest.{end_at, whole_of, chosen_for, near_end, far_end, samples_at, IsNear, IsEndReached, IsEndReachable};
+    ghost use Rattle.width_extreme.specs.Furthest.{end_at, whole_of, chosen_for, near_end, far_end, samples_at, IsEndReached, IsEndReachable};
 
     /// The greatest value of the sum over the streams and the indices of the class, or else the least, and an index
     /// of the class at which some samples of the width make it. It takes no memory.
     pub fn extreme_value(&self, sum: &WeightedSum, class: Class, high: bool) -> Reached
         requires class { class.residue < class.modulus }
         requires room { HasFormRoom self.now.table self.now.width (weights_of sum.now) }
-        requires near { IsNear self.now.table self.now.longest sum.now class }
-        ensures { IsEndReachable self.now.table self.now.width self.now.longest sum.now class high result.index result.value }
+        ensures reachable { IsEndReachable self.now.table self.now.width self.now.longest sum.now class high result.index result.value }
+        ensures near { result.index ≤ 2 ^ 97 }
     {
         self.reach(sum, class, high)
     }
@@ -60,8 +60,8 @@ impl PrefixRanges {
     ) -> Result<Extreme, Memory>
         requires class { class.residue < class.modulus }
         requires room { HasFormRoom self.now.table self.now.width (weights_of sum.now) }
-        requires near { IsNear self.now.table self.now.longest sum.now class }
         ensures reached { IfOk result (λ extreme. IsEndReached self.now.table self.now.width self.now.longest sum.now class high extreme.samples.items extreme.index extreme.value) }
+        ensures near { IfOk result (λ extreme. extreme.index ≤ 2 ^ 97) }
         ensures samples { IfOk result (λ extreme. extreme.samples.items ≡ samples_at self.now.table self.now.width (weights_of sum.now) high extreme.index) }
     {
         let reached = self.reach(sum, class, high);
@@ -77,9 +77,9 @@ impl PrefixRanges {
     fn reach(&self, sum: &WeightedSum, class: Class, high: bool) -> Reached
         requires class { class.residue < class.modulus }
         requires room { HasFormRoom self.now.table self.now.width (weights_of sum.now) }
-        requires near { IsNear self.now.table self.now.longest sum.now class }
-        ensures { IsEndReached self.now.table self.now.width self.now.longest sum.now class high
+        ensures end { IsEndReached self.now.table self.now.width self.now.longest sum.now class high
             (samples_at self.now.table self.now.width (weights_of sum.now) high result.index) result.index result.value }
+        ensures near { result.index ≤ length (rows_of self.now.table) * 2 ^ 64 + 2 ^ 66 }
     {
         let furthest = self.furthest(sum, class, high);
         Reached {
@@ -93,14 +93,15 @@ impl PrefixRanges {
         &self,
         alloc: Global,
         sum: &WeightedSum,
-        index: u64,
+        index: u128,
         high: bool,
     ) -> Result<Vec<i64>, Memory>
         requires room { HasFormRoom self.now.table self.now.width (weights_of sum.now) }
+        requires near { index ≤ length (rows_of self.now.table) * 2 ^ 64 + 2 ^ 66 }
         ensures { IfOk result (λ samples. samples.items ≡ samples_at self.now.table self.now.width (weights_of sum.now) high index) }
     {
         let factors = sum.weights.as_slice();
-        let first = index % self.table.classes();
+        let first = self.class_of(index);
         let newest = self.newest_at(index);
         let mut samples = Vec::new(alloc);
         let mut place = 0u128;
@@ -130,14 +131,31 @@ impl PrefixRanges {
         self.delay(index, entry) + u128::from(self.longest) <= place
     }
 
-    // The newest sample of an index.
-    fn newest_at(&self, index: u64) -> u128
-        ensures newest { pos result ≡ (responses_of self.now.table (pos index)).newest }
-        ensures small { result < 2 ^ 97 }
+    // The class of an index.
+    fn class_of(&self, index: u128) -> u64
+        ensures class { result ≡ index % length (rows_of self.now.table) }
+        ensures below { result < length (rows_of self.now.table) }
     {
-        let classes = self.table.classes();
-        let newest = u128::from(self.table.newest(index % classes));
-        newest + u128::from(index / classes) * u128::from(self.table.step())
+        (index % u128::from(self.table.classes())) as u64
+    }
+
+    // How many rounds of the classes lie before an index.
+    fn rounds_to(&self, index: u128) -> u128
+        requires near { index ≤ length (rows_of self.now.table) * 2 ^ 64 + 2 ^ 66 }
+        ensures rounds { result ≡ index / length (rows_of self.now.table) }
+        ensures few { result < 2 ^ 67 }
+    {
+        index / u128::from(self.table.classes())
+    }
+
+    // The newest sample of an index.
+    fn newest_at(&self, index: u128) -> u128
+        requires near { index ≤ length (rows_of self.now.table) * 2 ^ 64 + 2 ^ 66 }
+        ensures newest { pos result ≡ (responses_of self.now.table (pos index)).newest }
+        ensures small { result < 2 ^ 100 }
+    {
+        let newest = u128::from(self.table.newest(self.class_of(index)));
+        newest + self.rounds_to(index) * u128::from(self.table.step())
     }
 
     // The sample that a weight asks for.
@@ -205,33 +223,36 @@ impl PrefixRanges {
     }
 
     // The first index of a finer class at which every sample in the sum has an index of 0 or more.
-    fn index_past(&self, sum: &WeightedSum, class: Class, finer: u64) -> u64
+    fn index_past(&self, sum: &WeightedSum, class: Class, finer: u64) -> u128
         requires class { class.residue < class.modulus }
         requires finer { finer < finer_classes (length (rows_of self.now.table)) class.modulus }
-        requires near { IsNear self.now.table self.now.longest sum.now class }
-        ensures { IsPast (class.residue + finer * class.modulus) (whole_of self.now.table class)
+        ensures past { IsPast (class.residue + finer * class.modulus) (whole_of self.now.table class)
             (needed_for self.now.table self.now.longest sum.now.behind (length sum.now.weights.items)) result }
+        ensures near { result ≤ length (rows_of self.now.table) * 2 ^ 64 + 2 ^ 66 }
     {
         let first = first_of(class, finer);
-        past(first, self.whole(sum, class), self.needed(sum, class))
+        past(
+            u128::from(first),
+            u128::from(self.whole(class)),
+            self.needed(sum.behind, sum.weights.len() as u64),
+        )
     }
 
     // The indices of a round of all finer classes.
-    fn whole(&self, sum: &WeightedSum, class: Class) -> u64
+    fn whole(&self, class: Class) -> u64
         requires class { class.residue < class.modulus }
-        requires near { IsNear self.now.table self.now.longest sum.now class }
         ensures { result ≡ whole_of self.now.table class }
     {
         self.finer_count(class) * u64::from(class.modulus)
     }
 
-    // From this index on every sample in the sum has an index of 0 or more.
-    fn needed(&self, sum: &WeightedSum, class: Class) -> u64
-        requires { IsNear self.now.table self.now.longest sum.now class }
-        ensures { result ≡ needed_for self.now.table self.now.longest sum.now.behind (length sum.now.weights.items) }
+    // From this index on every sample in a sum of so many factors has an index of 0 or more.
+    fn needed(&self, behind: u64, factors: u64) -> u128
+        ensures needed { result ≡ needed_for self.now.table self.now.longest behind factors }
+        ensures near { result ≤ length (rows_of self.now.table) * 2 ^ 64 + 2 ^ 65 }
     {
-        let rounds = self.longest / self.table.step() + 1;
-        sum.behind + sum.weights.len() as u64 + self.table.classes() * rounds
+        let rounds = u128::from(self.longest / self.table.step()) + 1;
+        u128::from(behind) + u128::from(factors) + u128::from(self.table.classes()) * rounds
     }
 }
 
@@ -258,9 +279,9 @@ fn further(best: FinerEnd, next: FinerEnd, high: bool) -> FinerEnd
 }
 
 // The first index that is enough, so many whole rounds after the first one.
-fn past(first: u64, whole: u64, needed: u64) -> u64
+fn past(first: u128, whole: u128, needed: u128) -> u128
     requires first { first < whole }
-    requires room { needed + whole < 2 ^ 64 }
+    requires room { needed + whole < 2 ^ 128 }
     ensures { IsPast first whole needed result }
 {
     if needed <= first {

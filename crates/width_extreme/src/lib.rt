@@ -1,9 +1,7 @@
 //! The exact ranges of forms over the streams of a chain's prefix.
 #![tactic(auto)]
 
-mod chain;
 mod extreme;
-mod first;
 mod prefix;
 
 ghost use Rattle.std.specs.Prelude.{ℕ, ◌<◌, List, ℤ};
@@ -14,7 +12,6 @@ ghost use Rattle.stage_law.specs.declared.ranges.Class.{Class};
 ghost use Rattle.impulse_phase.specs.Response.{AreLinear, responses, full_cycle};
 ghost use Rattle.width_extreme.specs.Prefix.{IsStream, range_of, finer_classes};
 
-pub use chain::ChainRanges;
 pub use extreme::{Extreme, Reached};
 pub use prefix::PrefixRanges;
 

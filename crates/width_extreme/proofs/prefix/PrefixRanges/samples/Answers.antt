@@ -1,4 +1,4 @@
-use Rattle.std.proofs.Common.{rules, ◌∙◌, ◌%◌, ℕ, ℤ, List, ◌++◌, replicate, pos, sym, ap, subst, arith}
+use Rattle.std.proofs.Common.{rules, ◌∙◌, ℤ, List, ◌++◌, replicate, pos, sym, ap, subst, arith}
 use Rattle.std.proofs.lemmas.Int.{to_z-of_z}
 use mir.Syntax.{w64, w128}
 use mir.Val.{SFits}
@@ -13,7 +13,7 @@ places-preserved-then-is_spent c =
     let s = c.args.self.now in
     let v = c.places.invariant in
     record {
-      made = samples-pass s.table s.width s.longest c.args.sum.now.behind c.as_slice-factors.result.now c.args.high c.args.index (c.args.index % c.classes.result) c.newest_at-newest.result c.places.start c.places.place
+      made = samples-pass s.table s.width s.longest c.args.sum.now.behind c.as_slice-factors.result.now c.args.high c.args.index c.class_of-first.result c.newest_at-newest.result c.places.start c.places.place
           c.places.entry.back c.places.samples.items v.made c.if-start-factors.true v.back (c.is_spent.ensures c.if-is_spent.true);
       entry = c.next_entry-entry.ensures.entry;
       back = omega (arith, c.next_entry-entry.ensures.back, v.back);
@@ -38,8 +38,8 @@ places-preserved c =
     let fits : SFits w128 weight = search rules in
     let small : SFits w64 c.sample_for.result = search rules in
     record {
-      made = samples-more s.table s.width s.longest c.args.sum.now.behind c.as_slice-factors.result.now c.args.high c.args.index (c.args.index % c.classes.result) c.newest_at-newest.result c.places.start c.places.place
-          c.places.entry.back c.places.samples.items _ weight c.sample_for.result s.lawful s.long v.made (ap (λ (n : ℕ). c.args.index % n) c.classes.ensures) v.back c.places-test.true c.weight_at-weight.ensures
+      made = samples-more s.table s.width s.longest c.args.sum.now.behind c.as_slice-factors.result.now c.args.high c.args.index c.class_of-first.result c.newest_at-newest.result c.places.start c.places.place
+          c.places.entry.back c.places.samples.items _ weight c.sample_for.result s.lawful s.long v.made c.class_of-first.ensures.class v.back c.places-test.true c.weight_at-weight.ensures
           (simp to_z-of_z at c.sample_for.ensures) (simp to_z-of_z at c.in_ok-push.ensures.items);
       entry = v.entry;
       back = v.back;
@@ -49,6 +49,6 @@ pub returns : goal.returns
 returns c =
     let s = c.args.self.now in
     let sum = c.args.sum.now in
-    samples-end s.table s.width s.longest sum.behind c.as_slice-factors.result.now c.args.high c.args.index (c.args.index % c.classes.result) c.newest_at-newest.result c.places.start c.places.place c.places.samples.items _
+    samples-end s.table s.width s.longest sum.behind c.as_slice-factors.result.now c.args.high c.args.index c.class_of-first.result c.newest_at-newest.result c.places.start c.places.place c.places.samples.items _
     c.places.invariant.made c.places-test.false c.newest_at-newest.ensures.newest c.reverse.ensures.items
     ∙ ap (λ (zs : List ℤ). samples_at s.table s.width (replicate sum.behind (pos 0) ++ zs) c.args.high c.args.index) c.as_slice-factors.ensures.value
