@@ -5,4 +5,5 @@ pub mod Gate
 pub mod Leaves
 pub mod Phase
 pub mod Shallow
+pub mod Shapes
 pub mod Tree
