@@ -1,5 +1,5 @@
 -- Samples that drive a linear register, as a text.
-use Rattle.std.proofs.Common.{◌≡◌, ℕ, ◌≤◌, List, All, Some, subst}
+use Rattle.std.proofs.Common.{◌≡◌, ℕ, ◌≤◌, List, All, subst, arith}
 use Rattle.mr_values.specs.Value.{size}
 use Rattle.mr_values.specs.Width.{FitsWidth}
 use Rattle.mr_values.specs.declared.plan.Element.{Element}

@@ -28,7 +28,13 @@ pub fn register_text(
 {
     match register_extreme(alloc, plan, facts, register)? {
         Some(extreme) => {
-            let text = extreme_text(alloc, register, extreme.tick, extreme.value, &extreme.samples)?;
+            let text = extreme_text(
+                alloc,
+                register,
+                extreme.tick,
+                extreme.value,
+                &extreme.samples,
+            )?;
             Ok(Some(text))
         }
         None => Ok(None),
