@@ -9,3 +9,4 @@ pub mod LinearOn
 pub mod Output
 pub mod Prefixes
 pub mod Told
+pub mod Shapes

@@ -11,6 +11,7 @@ ghost use Rattle.chain_build.specs.ChainNet.{IsChainNet};
 ghost use Rattle.chain_build.specs.GroupCosts.{HasCosts};
 ghost use Rattle.chain_build.specs.Linear.{output_range};
 ghost use Rattle.chain_build.specs.LinearNet.{HasLinearRegisters};
+ghost use Rattle.chain_build.specs.Shapes.{HaveLinearItems};
 ghost use Rattle.chain_build.specs.Told.{TellsRegisters};
 
 use crate::extremes::RegisterExtreme;
@@ -108,6 +109,9 @@ pub fn build(alloc: Global, plan: &Plan, facts: &Facts) -> Result<Built, Memory>
 
     // For each linear register that needs more than one bit a value that needs all of its bits, and when some samples drive it there.
     ensures extremes { IfOk result (λ b. TellsRegisters (size plan.now.width) (size plan.now.ticks) plan.now.elements b.net b.extremes.items) }
+
+    // What the nodes of a linear group compute.
+    ensures shapes { IfOk result (λ b. HaveLinearItems 1 (groups plan.now.elements) b.net) }
 {
     let mut net = Net::new(alloc);
     let node = net.input(width_of(plan))?;
