@@ -7,7 +7,9 @@ pub mod PlanFile
 pub mod Reading
 pub mod CommandWords
 pub mod Compile
+pub mod OutFile
 pub mod Noble
+pub mod Extreme
 pub mod Run
 pub mod SimText
 pub mod Sim

@@ -1,12 +1,10 @@
 -- What `noble` writes, and what its answers mean.
-use Rattle.std.specs.Prelude.{◌≡◌, ◌⊎◌, ℕ, List, [], Result, Ok, Err}
+use Rattle.std.specs.Prelude.{◌≡◌, ℕ, List, [], Result, Ok, Err}
 use Rattle.std.specs.FinMap.{insert}
 use Rattle.mr_values.specs.Files.{Files}
 use Rattle.mr_values.specs.Host.{HostState}
 use Rattle.mr_values.specs.Sequence.{Sequence}
 use Rattle.mr_values.specs.Value.{chain}
-use Rattle.mr_values.specs.declared.host.HostCall.{HostCall}
-use Rattle.mr_values.specs.declared.host.HostCall.TheVariants.{OpenInput, Next, OpenOutput, Put}
 use Rattle.mr_values.specs.declared.plan.Plan.{Plan}
 use Rattle.noble_rewrite.specs.declared.turn.Applied.{Applied}
 use Rattle.noble_rewrite.specs.Turns.{IsSettled, LeadsTo}
@@ -14,7 +12,7 @@ use Rattle.plan_reader.specs.Documents.{Says}
 use Rattle.filter_core.specs.declared.fault.Fault.{Fault}
 use Rattle.filter_core.specs.declared.fault.Fault.TheVariants.{HostFault, Memory}
 use Rattle.filter_core.specs.PlanFile.{IsAcceptedFile, IsRefusedPlan, AreReadToEnd}
-use Rattle.filter_core.specs.WholeFiles.{IsEmptied, HoldsFront, HoldsPart}
+use Rattle.filter_core.specs.OutFile.{IsHaltedAt, IsEnded}
 
 -- The bytes are a plan file of a rewritten plan: the width and the ticks are the same, the noble identities lead to its elements,
 -- none applies to them, and they have the same value at every index of every sequence.
@@ -42,24 +40,9 @@ pub record IsRewritten (plan out : List ℕ) (old new : HostState) : Type 0 wher
   pub ended : AreReadToEnd plan old new
   pub written : new.files ≡ insert old.files out bytes
 
--- what OUT holds where writing it was cut short
-abbrev pub IsShort : (List ℕ → Files → Files → Type 0) → List ℕ → Files → Files → Type 0
-IsShort Holds plan old new = (bytes : List ℕ) × IsOutput plan old bytes × Holds bytes old new
-
--- what the files hold after the host call that failed
-abbrev pub IsHaltedAt : HostCall → List ℕ → List ℕ → Files → Files → Type 0
-IsHaltedAt OpenInput plan out old new = new ≡ old
-IsHaltedAt Next plan out old new = new ≡ old
-IsHaltedAt OpenOutput plan out old new = IsShort (λ bytes. IsEmptied out) plan old new
-IsHaltedAt Put plan out old new = IsShort (HoldsFront out) plan old new
-
--- memory ran out before OUT was opened, or while it was written
-abbrev pub IsEnded : List ℕ → List ℕ → Files → Files → Type 0
-IsEnded plan out old new = (new ≡ old) ⊎ IsShort (HoldsPart out) plan old new
-
 -- each answer of `noble`, and the host after it
 abbrev pub NobleEnds : List ℕ → List ℕ → Result (Unit {0}) Fault → HostState → HostState → Type 0
 NobleEnds plan out (Ok unit) old new = IsRewritten plan out old new
-NobleEnds plan out (Err (HostFault call)) old new = IsHaltedAt call plan out old.files new.files
-NobleEnds plan out (Err Memory) old new = IsEnded plan out old.files new.files
+NobleEnds plan out (Err (HostFault call)) old new = IsHaltedAt call (IsOutput plan old.files) out old.files new.files
+NobleEnds plan out (Err Memory) old new = IsEnded (IsOutput plan old.files) out old.files new.files
 NobleEnds plan out (Err why) old new = IsRefusedPlan plan old.files why × (new.files ≡ old.files)

@@ -4,12 +4,13 @@ use Rattle.mr_values.specs.Files.{Files}
 use Rattle.mr_values.specs.Host.{HostState}
 use Rattle.filter_core.specs.declared.fault.Fault.{Fault}
 use Rattle.filter_core.specs.declared.fault.Fault.TheVariants.{Usage, NotBuilt}
-use Rattle.filter_core.specs.CommandWords.{CommandWords, compile_words, run_words, sim_words, order_words, noble_words}
+use Rattle.filter_core.specs.CommandWords.{CommandWords, compile_words, run_words, sim_words, order_words, extreme_words, noble_words}
 use Rattle.mr_values.specs.declared.plan.Plan.{Plan}
 use Rattle.filter_core.specs.Ends.{IsNoFile}
 use Rattle.filter_core.specs.PlanFile.{IsAcceptedFile, IsOfPlan}
 use Rattle.filter_core.specs.Noble.{NobleEnds}
 use Rattle.filter_core.specs.Compile.{CompileEnds, IsBuiltFile}
+use Rattle.filter_core.specs.Extreme.{ExtremeEnds, IsExtremeReady}
 use Rattle.filter_core.specs.Order.{OrderEnds}
 use Rattle.filter_core.specs.Run.{RunEnds, IsReadForRun, IsRunReady}
 use Rattle.filter_core.specs.Sim.{SimEnds, IsTextOrStimulus, AreSimFiles}
@@ -20,6 +21,7 @@ IsReadFor (compile_words plan text report) = IsOfPlan plan
 IsReadFor (run_words plan samples out) = IsReadForRun plan samples
 IsReadFor (sim_words text stimulus out) = IsTextOrStimulus text stimulus
 IsReadFor (order_words text stimulus out number) = IsTextOrStimulus text stimulus
+IsReadFor (extreme_words plan register out) = IsOfPlan plan
 IsReadFor (noble_words plan out) = IsOfPlan plan
 IsReadFor _ = IsNoFile
 
@@ -29,6 +31,7 @@ IsUnbuilt (compile_words plan text report) result old new = Unit {0}
 IsUnbuilt (run_words plan samples out) result old new = Unit {0}
 IsUnbuilt (sim_words text stimulus out) result old new = Unit {0}
 IsUnbuilt (order_words text stimulus out number) result old new = Unit {0}
+IsUnbuilt (extreme_words plan register out) result old new = Unit {0}
 IsUnbuilt (noble_words plan out) result old new = Unit {0}
 IsUnbuilt _ result old new = (result ≡ Err NotBuilt) × (new ≡ old)
 
@@ -38,6 +41,7 @@ CommandEnds (compile_words plan text report) result old new = CompileEnds plan t
 CommandEnds (run_words plan samples out) result old new = RunEnds plan samples out result old new
 CommandEnds (sim_words text stimulus out) result old new = SimEnds text stimulus out result old new
 CommandEnds (order_words text stimulus out number) result old new = OrderEnds text stimulus out number result old new
+CommandEnds (extreme_words plan register out) result old new = ExtremeEnds plan register out result old new
 CommandEnds (noble_words plan out) result old new = NobleEnds plan out result old new
 CommandEnds _ result old new = (result ≡ Err NotBuilt) × (new ≡ old)
 
@@ -47,6 +51,7 @@ IsReady (compile_words plan text report) files = IsBuiltFile plan files
 IsReady (run_words plan samples out) files = IsRunReady plan samples files
 IsReady (sim_words text stimulus out) files = AreSimFiles text stimulus files
 IsReady (order_words text stimulus out number) files = AreSimFiles text stimulus files
+IsReady (extreme_words plan register out) files = IsExtremeReady plan register files
 IsReady (noble_words plan out) files = (meaning : Plan) × IsAcceptedFile plan files meaning
 IsReady _ files = ⊥
 

@@ -3,6 +3,7 @@
 
 mod accept;
 mod compile_command;
+mod extreme_command;
 mod fault;
 mod fault_lines;
 mod fault_words;

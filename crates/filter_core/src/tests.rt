@@ -102,6 +102,30 @@ fn rewrites_a_plan(rt: HostRuntime) -> Result<(), Fail> {
     Ok(())
 }
 
+// The output register of a sum of two samples, and names that are no linear register of it.
+#[test]
+fn drives_a_register(rt: HostRuntime) -> Result<(), Fail> {
+    let alloc = rt.alloc();
+    let plan = b"version = 1\nwidth = 4\n[[element]]\nkind = \"filter\"\ntaps = [1, 1]\n";
+    let mut host = host_with(alloc, plan, b"")?;
+    let outcome = filter_tool(alloc, &words(alloc, "extreme plan out_q out")?, &mut host);
+    assert_eq!(rt; outcome.status, 0);
+    let out = host.file("out").ok_or("no file")?;
+    assert!(rt; out.starts_with(b"# register out_q tick "));
+    let outcome = filter_tool(alloc, &words(alloc, "run plan out values")?, &mut host);
+    assert_eq!(rt; outcome.status, 0);
+    for name in ["ctl_0", "s9_w0", "s1_w"] {
+        let line = format!(in alloc; "extreme plan {name} none")?;
+        let outcome = filter_tool(alloc, &words(alloc, line.as_str())?, &mut host);
+        assert_eq!(rt; outcome.status, 60);
+        let fault = outcome.fault.ok_or("no fault")?;
+        let told = format!(in alloc; "NoSuchRegister name={name}")?;
+        assert_eq!(rt; format!(in alloc; "{fault}")?.as_str(), told.as_str());
+        assert_eq!(rt; host.file("none"), None);
+    }
+    Ok(())
+}
+
 // Samples, the values of the chain that belong to them, and the status. A line that is refused comes after two ticks for each sample
 // before it, and value n stands at the tick 4 + n.
 #[test]

@@ -9,6 +9,7 @@ ghost use Rattle.filter_core.specs.Tool.{CommandEnds, ToolEnds, IsUnbuilt, IsUnb
 
 use crate::Fault;
 use crate::compile_command::compile;
+use crate::extreme_command::extreme;
 use crate::noble_command::noble;
 use crate::order_command::order;
 use crate::run_command::run_plan;
@@ -88,7 +89,11 @@ fn run<H: Host>(alloc: Global, command: Command<'_>, host: &mut H) -> Result<(),
             out,
             number,
         } => order(alloc, text, stimulus, out, number, host),
-        Command::Extreme { .. } => Err(Fault::NotBuilt),
+        Command::Extreme {
+            plan,
+            register,
+            out,
+        } => extreme(alloc, plan, register, out, host),
         Command::Noble { plan, out } => noble(alloc, plan, out, host),
         Command::Demo { .. } => Err(Fault::NotBuilt),
     }

@@ -2,6 +2,7 @@ use Rattle.std.proofs.Common.{subst}
 use Rattle.filter_core.specs.CommandWords.{words_of}
 use Rattle.filter_core.specs.Tool.{IsReady}
 use Rattle.filter_core.proofs.Completeness.{compile-complete, noble-complete}
+use Rattle.filter_core.proofs.ExtremeSteps.{extreme-complete}
 use Rattle.filter_core.proofs.RunSteps.{run-complete}
 use Rattle.filter_core.proofs.SimSteps.{sim-complete}
 use Rattle.filter_core.proofs.OrderSteps.{order-complete}
@@ -41,3 +42,10 @@ returns-in-Order-clause-complete g c = λ told ready unstruck.
     let new = g.H.Host.state c.order.new.host in
     let accepted = subst (λ command. IsReady (words_of command) old.files) c.in-Order.is ready in
     order-complete c.in-Order.text.now c.in-Order.stimulus.now c.in-Order.out.now c.in-Order.number c.order.result old new (c.order.ensures.cause.struck told) (c.order.ensures.told told) accepted unstruck
+
+pub returns-in-Extreme-clause-complete : goal.returns-in-Extreme-clause-complete
+returns-in-Extreme-clause-complete g c = λ told ready unstruck.
+    let old = g.H.Host.state c.args.host.now in
+    let new = g.H.Host.state c.extreme.new.host in
+    let accepted = subst (λ command. IsReady (words_of command) old.files) c.in-Extreme.is ready in
+    extreme-complete c.in-Extreme.plan.now c.in-Extreme.register.now c.in-Extreme.out.now c.extreme.result old new (c.extreme.ensures.cause.struck told) (c.extreme.ensures.told told) accepted unstruck
