@@ -9,6 +9,7 @@ pub mod UncutPlaces
 pub mod UncutOutput
 pub mod DepthText
 pub mod CountedText
+pub mod ShapesText
 pub mod NodeNames
 pub mod RegisterNumbers
 pub mod RegisterGroups

@@ -1,4 +1,5 @@
 use Rattle.std.proofs.Common.{ℕ, subst, sym, ◌∙◌, ap}
+use Rattle.std.proofs.lemmas.Option.{slice_get_within}
 use Rattle.mr_values.specs.Value.{size}
 use Rattle.mr_values.specs.Width.{IsLeastWidth}
 use Rattle.mr_values.specs.Timing.{groups, last_stream}
@@ -21,11 +22,16 @@ use Rattle.filter_text.proofs.UncutOutput.{keeps_output}
 use Rattle.plan_laws.proofs.Passes.{passes_of}
 use Rattle.filter_text.proofs.CountedText.{chain_counted, chain_costs}
 use Rattle.filter_text.proofs.RegistersText.{registers_text}
+use Rattle.filter_text.proofs.ShapesText.{chain_shaped}
 use Rattle.filter_text.proofs.ReadModules.{passing, running, output_width}
 use Rattle.filter_text.proofs.chain.chain_module.Goals as goal
 
 pub module_of-requires-clause-writable : goal.module_of-requires-clause-writable
 module_of-requires-clause-writable c = chain_writable c.in_ok-built.ensures.chain (narrow_plan c.args.plan.now c.requires.accepted)
+
+pub width-requires : goal.width-requires
+width-requires c =
+    let register = c.in_ok-built.ensures.chain.register in slice_get_within c.in_ok-built.built.net c.in_ok-built.built.out_q.place register.cell register.there
 
 pub returns : goal.returns
 returns c =
@@ -56,6 +62,7 @@ returns c =
                 (keeps_output (wide_plan c.args.plan.now c.requires.accepted) (narrow_plan c.args.plan.now c.requires.accepted) (some_ticks c.args.plan.now c.requires.accepted) net d as_written plain));
             registers = registers_text (wide_plan c.args.plan.now c.requires.accepted) (narrow_plan c.args.plan.now c.requires.accepted) (some_ticks c.args.plan.now c.requires.accepted) net small d as_written few c.in_ok-built.ensures.registers;
             costs = chain_counted es c.in_ok-built.built.costs.items cells few net.netlist small has d as_written;
+            shapes = chain_shaped es cells few net.netlist small has.no_tables c.in_ok-built.ensures.shapes d as_written;
           };
       writable = subst (λ (d : Design). IsWritable limits d) (sym is) (has_text cells net.netlist can small);
       in_order = subst (λ (d : Design). IsInOrder d) (sym is) (in_order cells net.netlist can);
