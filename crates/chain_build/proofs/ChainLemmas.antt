@@ -194,6 +194,6 @@ module _ {n1 n2 n3 : NetView} {node : Node} {stream : Stream} {outputs : Outputs
   pub chain_costs : {costs : List GroupCost} → IsWellFormed n3.cells → (AreApart n2.cells → HasCosts (groups elements) costs n2.cells) → HasCosts (groups elements) costs n3.cells
   chain_costs formed of_groups = HasCosts-outputs outs.grown outs.adders outs.named (of_groups (AreApart-before outs.grown.extends (record { apart = formed.apart })))
 
-  -- the outputs add nodes of a linear group alone
+  -- what the outputs add may stand in a linear group
   pub chain_shapes : HaveLinearItems 1 (groups elements) n2.cells → HaveLinearItems 1 (groups elements) n3.cells
   chain_shapes have = shapes-outputs (groups elements) outs.linear have

@@ -57,6 +57,6 @@ shapes_with number [] g cells have own = (λ shape. subst (λ (n : ℕ). HasLine
 shapes_with number (h ∷ gs) g cells have own =
     (have.0, shapes_with (number + 1) gs g cells have.1 (λ shape. subst (λ (n : ℕ). HasLinearItems cells n) (let e : number + suc (length gs) ≡ number + 1 + length gs = omega arith in e) (own shape)))
 
--- the outputs add such nodes alone
+-- a net that gets such nodes alone
 pub shapes-outputs : (gs : List Group) {old new : List Cell} → KeepsShapes old new → HaveLinearItems 1 gs old → HaveLinearItems 1 gs new
 shapes-outputs gs {old} {new} keeps have = same_shapes 1 gs old new (λ k low high h. keeps.each k low h) have

@@ -42,8 +42,8 @@ IsKeptWhole cells from width register =
     → Carries values from v → Carries whole from v → (t : ℕ) → values t register.place ≡ whole t register.place
 
 -- The output register has the least width that holds the span, and carries the stream one tick later; the bit shown as `out_valid` is
--- set exactly at these ticks. No stage's group has more adders, and no group more window registers or tables; what is added a linear group
--- may have.
+-- set exactly at these ticks. No stage's group has more adders, and no group more window registers or tables; what is added may stand in a
+-- linear group.
 pub record AddsOutputs (low high : ℤ) (old new : NetView) (from : Stream) (outputs : Outputs) : Type 0 where
   pub grown : IsGrown old.cells new.cells
   pub width : ℕ

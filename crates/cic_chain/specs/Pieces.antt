@@ -24,8 +24,8 @@ pub record HasRegister (cells : List Cell) (group number width : ℕ) : Type 0 w
   pub register : IsRegister cells place group (name_of group Register number) width
 
 -- The new net leads from one node to another by so many registers of this width, numbered on from the first free number, and so many
--- adders. No adder stands before another where none stands before `from`, and then none stands before `to`. What is added a linear group
--- may have.
+-- adders. No adder stands before another where none stands before `from`, and then none stands before `to`. What is added may stand in a
+-- linear group.
 pub record IsPiece (old new : NetView) (from to : Node) (width registers adders : ℕ) : Type 0 where
   pub grows : Grows old new
   pub within : to.place < length new.cells

@@ -56,7 +56,7 @@ pub record IsNarrow (cells : List Cell) (width : ℕ) (node : Node) : Type 0 whe
   pub most : (cell_at cells node.place).width ≤ width
 
 -- The node `to` of the new net has, in every run, however it is cut, the value of node `phase` of the first `count`, at each tick
--- where bit `phase` alone is set.
+-- where bit `phase` alone is set. Where the bits are control, what is added may stand in a linear group.
 pub record IsSelection (old new : NetView) (bits nodes : List Node) (count width : ℕ) (to : Node) : Type 0 where
   pub grows : Grows old new
   pub narrow : IsNarrow new.cells width to

@@ -16,7 +16,7 @@ pub record ArePlain (cells : List Cell) (group : ℕ) (nodes : List Node) : Type
 pub record HasPlainLeaves (cells : List Cell) (group : ℕ) (leaves : List Leaf) : Type 0 where
   pub each : (k : ℕ) (leaf : Leaf) → slice_get leaves k ≡ Some leaf → IsPlain cells group leaf.node.place
 
--- the new net is shallow where the old was, the node `to` is plain where `from` was, and what is added a linear group may have
+-- the new net is shallow where the old was, the node `to` is plain where `from` was, and what is added may stand in a linear group
 pub record PassesPlain (old new : NetView) (from to : Node) : Type 0 where
   pub shallow : IsShallow old.cells old.group → IsShallow new.cells old.group
   pub plain : IsBound old.cells → IsPlain old.cells old.group from.place → IsPlain new.cells old.group to.place
@@ -26,12 +26,12 @@ pub record PassesPlain (old new : NetView) (from to : Node) : Type 0 where
 pub record KeepsShallow (old new : NetView) (from : Node) : Type 0 where
   pub shallow : IsShallow old.cells old.group → IsPlain old.cells old.group from.place → IsShallow new.cells old.group
 
--- the new net is shallow where the old was and these two nodes were plain, and what is added a linear group may have
+-- the new net is shallow where the old was and these two nodes were plain, and what is added may stand in a linear group
 pub record SumsPlain (old new : NetView) (a b : Node) : Type 0 where
   pub shallow : IsShallow old.cells old.group → IsPlain old.cells old.group a.place → IsPlain old.cells old.group b.place → IsShallow new.cells old.group
   pub linear : KeepsShapes old.cells new.cells
 
--- the new net is shallow where the old was and these leaves were plain, and what is added a linear group may have
+-- the new net is shallow where the old was and these leaves were plain, and what is added may stand in a linear group
 pub record SumsLeaves (old new : NetView) (leaves : List Leaf) : Type 0 where
   pub shallow : IsShallow old.cells old.group → HasPlainLeaves old.cells old.group leaves → IsShallow new.cells old.group
   pub linear : KeepsShapes old.cells new.cells
