@@ -49,7 +49,7 @@ plain_tables cells none = record {
   no_input = λ place cell name at named is. absurd (never_table cells none place cell name at named is);
 }
 
-own_tables : (cells : List Cell) → ((group : ℕ) → tables_in group cells ≡ 0) → HasOwnTables cells
+pub own_tables : (cells : List Cell) → ((group : ℕ) → tables_in group cells ≡ 0) → HasOwnTables cells
 own_tables cells none = record { own = λ place cell name at named is. absurd (never_table cells none place cell name at named is) }
 
 -- ---- places change no count

@@ -9,6 +9,7 @@ pub mod UncutPlaces
 pub mod UncutOutput
 pub mod DepthText
 pub mod CountedText
+pub mod ShapesText
 pub mod NodeNames
 pub mod RegisterNumbers
 pub mod RegisterGroups
@@ -17,3 +18,5 @@ pub mod SumExtreme
 pub mod LeastText
 pub mod ChainRegisters
 pub mod TellExtremes
+pub mod ByNumber
+pub mod TellNumbers

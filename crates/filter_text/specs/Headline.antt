@@ -17,11 +17,13 @@ use Rattle.verilog_tree.specs.Uncut.{Numbers, IsUncutRun, number_at}
 use Rattle.verilog_text.specs.Reading.{Reads}
 use Rattle.net_module.specs.Steps.{HasNoReset, tick_data, ticks_in, pair_of}
 use Rattle.filter_text.specs.Runs.{samples_in, IsRunFrom}
-use Rattle.filter_text.specs.Registers.{HasLinearRegisters}
+use Rattle.filter_text.specs.Registers.{HasLinearRegisters, AreLeastRegisters}
 use Rattle.chain_build.specs.Added.{HasFacts}
-use Rattle.chain_build.specs.Built.{ArePlainGroups}
+use Rattle.chain_build.specs.Built.{ArePlainGroups, kind_of}
 use Rattle.chain_build.specs.Linear.{output_range}
 use Rattle.stage_law.specs.Facts.{StageFacts}
+use Rattle.stage_law.specs.Kinds.{has_linear_shape}
+use Rattle.module_shapes.specs.Shapes.{HasLinearShapes}
 
 -- output n stands at the tick latency + n * period: so many outputs from one on, each with its tick
 abbrev pub outputs_from : ℕ → ℕ → (ℕ → ℤ) → ℕ → ℕ → List (ℕ × ℤ)
@@ -78,9 +80,15 @@ abbrev pub AreCounted : ℕ → List Group → Design → Type 0
 AreCounted number [] d = Unit {0}
 AreCounted number (g ∷ gs) d = IsCounted g number d × AreCounted (number + 1) gs d
 
--- the module passes every check, from any content it runs over any cycles, cut and uncut, its output has the least width for the range
--- of the chain's values, it shows the chain, its linear registers are those of the plan, none of them ever cut after a reset, and its groups
--- cost what they cost as stages, with at most one adder between two registers; where no group rounds, its output register is never cut
+-- the statements that drive names of the groups, numbered from here, have the shape of a linear group's, where the group is built so
+abbrev pub HaveShapes : ℕ → List Group → Design → Type 0
+HaveShapes number [] d = Unit {0}
+HaveShapes number (g ∷ gs) d = (has_linear_shape (kind_of g) ≡ true → HasLinearShapes d number) × HaveShapes (number + 1) gs d
+
+-- The module passes every check, from any content it runs over any cycles, cut and uncut, its output has the least width for the range
+-- of the chain's values, and it shows the chain. Its linear registers are those of the plan, none of them ever cut after a reset and each
+-- of the least width. Its groups cost what they cost as stages, with at most one adder between two registers, and their statements have
+-- the shapes of their forms; where no group rounds, its output register is never cut.
 pub record IsModuleOf (elements : List Element) (width ticks latency period : ℕ) (design : Design) : Type 0 where
   pub passes : Passes design
   pub runs : HasRuns design
@@ -89,7 +97,9 @@ pub record IsModuleOf (elements : List Element) (width ticks latency period : �
   pub shows : ShowsChain elements width ticks latency period design
   pub uncut : ArePlainGroups (groups elements) → KeepsOutput elements width ticks latency period design
   pub registers : HasLinearRegisters elements width ticks design
+  pub least : AreLeastRegisters elements width ticks design
   pub costs : AreCounted 1 (groups elements) design
+  pub shapes : HaveShapes 1 (groups elements) design
 
 -- the bytes read as one module, which is that of the chain
 pub record IsTextOf (elements : List Element) (width ticks latency period : ℕ) (bytes : List ℕ) : Type 0 where
