@@ -36,6 +36,8 @@ use Rattle.chain_build.specs.ChainNet.{HasInput, HasSamples, ShowsValues, IsChai
 use Rattle.chain_build.specs.GroupCosts.{AreUngrouped, AreApart, HasCosts}
 use Rattle.chain_build.specs.Linear.{output_range}
 use Rattle.chain_build.specs.Output.{AddsOutputs}
+use Rattle.chain_build.specs.Shapes.{HaveLinearItems}
+use Rattle.chain_build.proofs.ShapesSoFar.{shapes-outputs}
 use Rattle.chain_build.proofs.CostsSoFar.{HasCosts-outputs}
 use Rattle.chain_build.proofs.Counting.{AreApart-before}
 use Rattle.chain_build.proofs.Grown.{IsGrown-trans}
@@ -191,3 +193,7 @@ module _ {n1 n2 n3 : NetView} {node : Node} {stream : Stream} {outputs : Outputs
   -- the outputs cost nothing
   pub chain_costs : {costs : List GroupCost} → IsWellFormed n3.cells → (AreApart n2.cells → HasCosts (groups elements) costs n2.cells) → HasCosts (groups elements) costs n3.cells
   chain_costs formed of_groups = HasCosts-outputs outs.grown outs.adders outs.named (of_groups (AreApart-before outs.grown.extends (record { apart = formed.apart })))
+
+  -- the outputs add nodes of a linear group alone
+  pub chain_shapes : HaveLinearItems 1 (groups elements) n2.cells → HaveLinearItems 1 (groups elements) n3.cells
+  chain_shapes have = shapes-outputs (groups elements) outs.linear have

@@ -1,5 +1,5 @@
--- What the groups that were added so far cost.
-use Rattle.std.proofs.Common.{◌≡◌, ℕ, suc, ◌+◌, ◌<◌, ◌≤◌, ◌⊎◌, List, [], ◌∷◌, ◌++◌, length, Some, slice_get, refl, sym, ◌∙◌, ap, subst, arith, inl, inr, append_assoc, append-nil}
+-- What the groups that were added so far cost, and which nodes the linear ones have.
+use Rattle.std.proofs.Common.{◌≡◌, ℕ, suc, true, ◌+◌, ◌<◌, ◌≤◌, ◌⊎◌, List, [], ◌∷◌, ◌++◌, length, Some, slice_get, refl, sym, ◌∙◌, ap, subst, arith, inl, inr, append_assoc, append-nil}
 use Rattle.std.proofs.lemmas.Bool.{cases_lt}
 use Rattle.mr_values.specs.Timing.{Group, Fir, DownCic, UpCic, Rounding}
 use Rattle.net_graph.specs.declared.cell.Cell.{Cell}
@@ -21,6 +21,11 @@ use Rattle.chain_build.specs.declared.groups.Added.{Added}
 use Rattle.chain_build.specs.declared.groups.GroupCost.{GroupCost}
 use Rattle.chain_build.specs.Added.{HasFacts, IsGroupAdded, IsGrown, AreNameless}
 use Rattle.chain_build.specs.GroupCosts.{IsCostOf, AreCostsOf, AreUngrouped, AreApart, HasCosts}
+use Rattle.pipeline_balance.specs.Shapes.{HasLinearItems}
+use Rattle.stage_law.specs.Kinds.{has_linear_shape}
+use Rattle.chain_build.specs.Built.{kind_of}
+use Rattle.chain_build.specs.Shapes.{HaveLinearItems}
+use Rattle.chain_build.proofs.ShapesSoFar.{shape_of, HasLinearItems-none, HasLinearItems-other, same_shapes, shapes_with}
 use Rattle.chain_build.proofs.Counting.{AreApart-before, HasSame, HasSame-grows, no_adders, no_windows, no_tables}
 
 -- the tables of the built groups
@@ -75,6 +80,7 @@ pub record CostsSoFar (gs : List Group) (net : List Cell) (rest : List Group) (c
   pub below : (place : ℕ) (cell : Cell) → slice_get net place ≡ Some cell → cell.group < number
   pub known : AreApart net → AreCostsOf 1 front costs net
   pub tables : AreApart net → (group : ℕ) → tables_in group net ≡ 0
+  pub shapes : HaveLinearItems 1 front net
 
 pub CostsSoFar-start : (gs : List Group) (net : List Cell) → IsBound net → AreUngrouped net → ((name : Name) → IsFree net name) → CostsSoFar gs net gs [] 1
 CostsSoFar-start gs net bound ungrouped nameless = record {
@@ -85,6 +91,7 @@ CostsSoFar-start gs net bound ungrouped nameless = record {
   below = λ place cell at. let e = ungrouped.each cell place at in omega (arith, e);
   known = λ apart. tt;
   tables = λ apart group. no_tables net group (λ name data_kind same. nameless name);
+  shapes = tt;
 }
 
 -- a net of one node without a name
@@ -106,6 +113,7 @@ module _ {gs : List Group} {net : List Cell} {rest : List Group} {costs : List G
     below = below_new;
     known = known_new;
     tables = λ apart group. tables_new apart group;
+    shapes = shapes_new;
   }
     where
       r : Realises adds.facts streams mid new last added.emitted
@@ -198,6 +206,18 @@ module _ {gs : List Group} {net : List Cell} {rest : List Group} {costs : List G
           (same_costs 1 so.front costs net new.cells (omega arith) (λ k low high. same_in apart k (λ e. let c = so.count in omega (arith, c, e, high))) (so.known (apart_net apart)))
           (subst (λ (n : ℕ). IsCostOf g n new.cells added.cost) so.count own_cost)
 
+      shapes_own : has_linear_shape (kind_of g) ≡ true → HasLinearItems new.cells number
+      shapes_own shape = subst (λ (k : ℕ). HasLinearItems new.cells k) same_group (r.shapes (shape_of g adds.facts adds.has_facts shape) (HasLinearItems-none mid.cells mid.group new_group))
+
+      shapes_before : (k : ℕ) → 1 ≤ k → k < number → HasLinearItems net k → HasLinearItems new.cells k
+      shapes_before k some less h =
+          HasLinearItems-other k some (λ e. let s = same_group in omega (arith, e, s, less)) grows bound_mid (subst (λ (cells : List Cell). HasLinearItems cells k) (sym same_cells) h)
+
+      shapes_new : HaveLinearItems 1 (so.front ++ g ∷ []) new.cells
+      shapes_new =
+          shapes_with 1 so.front g new.cells (same_shapes 1 so.front net new.cells (λ k low high h. shapes_before k low (let c = so.count in omega (arith, c, high)) h) so.shapes)
+          (λ shape. subst (λ (k : ℕ). HasLinearItems new.cells k) so.count (shapes_own shape))
+
       tables_new : AreApart new.cells → (group : ℕ) → tables_in group new.cells ≡ 0
       tables_new apart group = by (cases_lt group number) (cases_lt number group)
         where
@@ -216,6 +236,9 @@ CostsSoFar-end {gs} {rest} {net} {costs} so none apart = record {
   costs_are = subst (λ (hs : List Group). AreCostsOf 1 hs costs net) (sym (append-nil so.front) ∙ ap (λ (r : List Group). so.front ++ r) (sym none) ∙ so.parts) (so.known apart);
   no_tables = record { none = so.tables apart };
 }
+
+pub shapes-end : {gs rest : List Group} {net : List Cell} {costs : List GroupCost} {number : ℕ} → CostsSoFar gs net rest costs number → rest ≡ [] → HaveLinearItems 1 gs net
+shapes-end {gs} {rest} {net} so none = subst (λ (hs : List Group). HaveLinearItems 1 hs net) (sym (append-nil so.front) ∙ ap (λ (r : List Group). so.front ++ r) (sym none) ∙ so.parts) so.shapes
 
 -- ---- the outputs change no cost, and bring no adder
 

@@ -20,4 +20,5 @@ pub mod OutputLemmas
 pub mod ChainLemmas
 pub mod LinearBuilt
 pub mod Counting
+pub mod ShapesSoFar
 pub mod CostsSoFar

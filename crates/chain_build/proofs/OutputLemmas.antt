@@ -33,6 +33,7 @@ use Rattle.pipeline_balance.specs.Tree.{AddsNode}
 use Rattle.pipeline_balance.proofs.CostLemmas.{SameAdders-refl, SameAdders-trans, SameAdders-plain, SameNamed-refl, SameNamed-trans, SameNamed-adds, nothing_more, other_kind}
 use Rattle.pipeline_balance.proofs.NumberedLemmas.{width-later, IsRegister-later, LeavesFree-refl}
 use Rattle.pipeline_balance.proofs.PairLemmas.{AddsNode-adds}
+use Rattle.pipeline_balance.proofs.ShapeLemmas.{KeepsShapes-refl, KeepsShapes-trans, KeepsShapes-adds, KeepsShapes-named}
 use Rattle.pipeline_balance.proofs.TakenLemmas.{IsBitOf-later, taken}
 use Rattle.chain_build.specs.Output.{IsCutTo, TakesOver, IsKeptWhole, AddsOutputs}
 use Rattle.chain_build.proofs.Grown.{IsGrown-grows, IsGrown-trans}
@@ -43,6 +44,7 @@ IsCutTo-same net node width inside same = record {
   names = LeavesFree-refl net.cells (λ name. ⊥);
   adders = SameAdders-refl net.cells;
   named = SameNamed-refl net.cells;
+  linear = KeepsShapes-refl net.cells;
   within = inside;
   wide = same;
   keeps = λ cut law inputs values run t fits. refl;
@@ -60,6 +62,7 @@ IsCutTo-shl {old} {new} {from} {to} {width} data_group wide a =
       names = node.names;
       adders = SameAdders-plain a refl;
       named = SameNamed-adds a;
+      linear = KeepsShapes-adds a tt;
       within = node.computes.within;
       wide = ap (λ (c : Cell). c.width) (cell_at-is new.cells to.place _ (cell_of_added a));
       keeps = λ cut law inputs values run t fits.
@@ -201,4 +204,5 @@ module _ {n0 n1 n2 n3 n4 : NetView} {from : Stream} {node out_q out_valid : Node
       bit = IsBitOf-later b.bit_of named_grows.extends;
       adders = SameAdders-trans cut_node.adders (SameAdders-trans g.adders (SameAdders-trans t.adders (SameAdders-trans b.adders valid_adders)));
       named = SameNamed-trans cut_node.named (SameNamed-trans g.named (SameNamed-trans taken_named (SameNamed-trans b.named valid_named)));
+      linear = KeepsShapes-trans cut_node.linear (KeepsShapes-trans g.linear (KeepsShapes-trans t.linear (KeepsShapes-trans b.linear (KeepsShapes-named named_grows.extends inside n))));
     }

@@ -8,3 +8,4 @@ pub mod LinearNet
 pub mod LinearOn
 pub mod Output
 pub mod Prefixes
+pub mod Shapes

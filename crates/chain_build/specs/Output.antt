@@ -14,6 +14,7 @@ use Rattle.net_graph.specs.Run.{Values, IsRun}
 use Rattle.pipeline_balance.specs.Costs.{SameAdders, SameNamed}
 use Rattle.pipeline_balance.specs.Gate.{IsTickOf, IsBitOf, Carries}
 use Rattle.pipeline_balance.specs.Numbered.{IsRegister, LeavesFree, name_of}
+use Rattle.pipeline_balance.specs.Shapes.{KeepsShapes}
 use Rattle.chain_build.specs.declared.output.Outputs.{Outputs}
 use Rattle.chain_build.specs.Added.{IsGrown}
 
@@ -23,6 +24,7 @@ pub record IsCutTo (old new : NetView) (from : Node) (width : ℕ) (to : Node) :
   pub names : LeavesFree old.cells new.cells (λ name. ⊥)
   pub adders : SameAdders old.cells new.cells
   pub named : SameNamed old.cells new.cells
+  pub linear : KeepsShapes old.cells new.cells
   pub within : to.place < length new.cells
   pub wide : (cell_at new.cells to.place).width ≡ width
   pub keeps : (cut : Cut) → IsCut cut → (inputs : ℕ → ℤ) (values : Values) → IsRun cut new.cells inputs values → (t : ℕ) → FitsWidth width (values t from.place) → values t to.place ≡ values t from.place
@@ -40,7 +42,8 @@ IsKeptWhole cells from width register =
     → Carries values from v → Carries whole from v → (t : ℕ) → values t register.place ≡ whole t register.place
 
 -- The output register has the least width that holds the span, and carries the stream one tick later; the bit shown as `out_valid` is
--- set exactly at these ticks. No stage's group has more adders, and no group more window registers or tables.
+-- set exactly at these ticks. No stage's group has more adders, and no group more window registers or tables; what is added a linear group
+-- may have.
 pub record AddsOutputs (low high : ℤ) (old new : NetView) (from : Stream) (outputs : Outputs) : Type 0 where
   pub grown : IsGrown old.cells new.cells
   pub width : ℕ
@@ -56,3 +59,4 @@ pub record AddsOutputs (low high : ℤ) (old new : NetView) (from : Stream) (out
   pub bit : IsBitOf new.cells (IsTickOf from.period (from.offset + 1)) outputs.out_valid
   pub adders : SameAdders old.cells new.cells
   pub named : SameNamed old.cells new.cells
+  pub linear : KeepsShapes old.cells new.cells

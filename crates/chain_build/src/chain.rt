@@ -11,6 +11,7 @@ ghost use Rattle.chain_build.specs.ChainNet.{IsChainNet};
 ghost use Rattle.chain_build.specs.GroupCosts.{HasCosts};
 ghost use Rattle.chain_build.specs.Linear.{output_range};
 ghost use Rattle.chain_build.specs.LinearNet.{HasLinearRegisters};
+ghost use Rattle.chain_build.specs.Shapes.{HaveLinearItems};
 
 use crate::groups::{GroupCost, add_groups};
 use crate::output::add_outputs;
@@ -102,6 +103,9 @@ pub fn build(alloc: Global, plan: &Plan, facts: &Facts) -> Result<Built, Memory>
 
     // The form of each group, and what it costs in adders, window registers and tables.
     ensures costs { IfOk result (λ b. HasCosts (groups plan.now.elements) b.costs.items b.net) }
+
+    // What the nodes of a linear group compute.
+    ensures shapes { IfOk result (λ b. HaveLinearItems 1 (groups plan.now.elements) b.net) }
 {
     let mut net = Net::new(alloc);
     let node = net.input(width_of(plan))?;

@@ -18,6 +18,7 @@ ghost use Rattle.chain_build.specs.LinearOn.{HasGroupRegisters};
 ghost use Rattle.chain_build.specs.Prefixes.{IsExactPrefix, CanTake, streams_before, elements_before};
 ghost use Rattle.chain_build.specs.Added.{IsTaking, IsGroupAdded, AreNameless, IsChained};
 ghost use Rattle.chain_build.specs.GroupCosts.{AreUngrouped, AreApart, HasCosts};
+ghost use Rattle.chain_build.specs.Shapes.{HaveLinearItems};
 
 use crate::cascades::{down_group, up_group};
 use crate::prefix::prefix_ranges;
@@ -264,6 +265,7 @@ pub(crate) fn add_groups(
     ensures rounded { IfOk result (λ c. c.rounded ≡ has_rounding (groups plan.now.elements)) }
     ensures registers { IfOk result (λ _. HasGroupRegisters (size plan.now.width) (size plan.now.ticks) plan.now.elements net.new.cells from) }
     ensures costs { IfOk result (λ c. AreApart net.new.cells → HasCosts (groups plan.now.elements) c.costs.items net.new.cells) }
+    ensures shapes { IfOk result (λ _. HaveLinearItems 1 (groups plan.now.elements) net.new.cells) }
 {
     let mut rest = plan.elements.as_slice();
     let mut last = from;

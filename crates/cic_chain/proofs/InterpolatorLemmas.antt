@@ -27,13 +27,15 @@ use Rattle.net_graph.specs.Run.{Values, IsRun}
 use Rattle.net_graph.proofs.CountLemmas.{adders_plain}
 use Rattle.net_graph.proofs.DepthLemmas.{IsPlain-later}
 use Rattle.net_graph.proofs.GroupLemmas.{nameless_data, nameless_control}
-use Rattle.net_graph.proofs.GrowLemmas.{Grows-data}
+use Rattle.net_graph.proofs.GrowLemmas.{Grows-data, IsOfControl-later}
 use Rattle.net_graph.proofs.NetLemmas.{cell_of_added}
 use Rattle.pipeline_balance.specs.Gate.{IsTickOf, IsCounter, HasTaken}
 use Rattle.pipeline_balance.specs.Numbered.{IsCounted, LeavesFree}
 use Rattle.pipeline_balance.proofs.CostLemmas.{SameNamed-adds}
 use Rattle.pipeline_balance.proofs.NumberedLemmas.{free_adds, IsCounted-leaves}
+use Rattle.pipeline_balance.specs.Shapes.{IsLinearItem}
 use Rattle.pipeline_balance.proofs.ShallowLemmas.{shallow_same}
+use Rattle.pipeline_balance.proofs.ShapeLemmas.{KeepsShapes-adds}
 use Rattle.pipeline_balance.proofs.TakenLemmas.{off_tick}
 use Rattle.cic_chain.specs.Cascade.{integrators, combs}
 use Rattle.cic_chain.specs.Pieces.{IsPiece, AddsStuffed, AddsIntegrators, AddsCombs, AddsInterpolator, sampled}
@@ -43,9 +45,9 @@ use Rattle.cic_chain.proofs.UpLemmas.{up-causal}
 
 -- ---- nodes without a register or an adder
 
-IsPiece-node : {old new : NetView} {node : Node} {width : ℕ} {item : Item} (from to : Node) (wide : ℕ) → 1 ≤ old.group → to.place < length new.cells → Adds old new node width item → is_input (Some item) ≡ false → is_adder (Some item) ≡ false
+IsPiece-node : {old new : NetView} {node : Node} {width : ℕ} {item : Item} (from to : Node) (wide : ℕ) → 1 ≤ old.group → to.place < length new.cells → Adds old new node width item → is_input (Some item) ≡ false → is_adder (Some item) ≡ false → IsLinearItem old.cells (Some item)
     → (IsShallow old.cells old.group → IsPlain old.cells old.group from.place → IsPlain new.cells old.group to.place) → IsPiece old new from to wide 0 0
-IsPiece-node {old} {new} {node} {width} {item} from to wide some inside a plain no_adder leads =
+IsPiece-node {old} {new} {node} {width} {item} from to wide some inside a plain no_adder linear leads =
     let g : Grows old new = Grows-data some a plain in
     let leaves : LeavesFree old.cells new.cells (λ name. ⊥) = record { free = λ name other f. free_adds a name f } in
     let same = adders_plain old.group a no_adder in
@@ -59,6 +61,7 @@ IsPiece-node {old} {new} {node} {width} {item} from to wide some inside a plain 
       wide = λ count c j h. absurd (omega arith);
       shallow = λ s p. shallow_same old.group g same s;
       plain = leads;
+      linear = KeepsShapes-adds a linear;
     }
 
 -- a control node without a name is of group 0
@@ -87,10 +90,10 @@ AddsStuffed-circuit {old} {n1} {n2} {new} {bit} {zero_node} {node} from width fa
     let some2 : 1 ≤ n2.group = rw z.group some1 in
     let g2 : Grows n1 n2 = Grows-data some1 z refl in
     let g3 : Grows n2 new = Grows-data some2 a refl in
-    let first : IsPiece old n1 from.node from.node width 0 0 = IsPiece-control from.node width some inside c.grows c.adders c.named c.names in
+    let first : IsPiece old n1 from.node from.node width 0 0 = IsPiece-control from.node width some inside c.grows c.adders c.named c.names c.linear in
     let inside2 : from.node.place < length n2.cells = let l1 = c.grows.extends.longer in let l2 = g2.extends.longer in omega (arith, inside, l1, l2) in
-    let second : IsPiece n1 n2 from.node from.node width 0 0 = IsPiece-node from.node from.node width some1 inside2 z refl refl (λ s p. IsPlain-later n1.cells n2.cells n1.group s.bound g2.extends from.node.place p) in
-    let third : IsPiece n2 new from.node node width 0 0 = IsPiece-node from.node node width some2 (slice_get_within new.cells node.place _ (cell_of_added a)) a refl refl
+    let second : IsPiece n1 n2 from.node from.node width 0 0 = IsPiece-node from.node from.node width some1 inside2 z refl refl tt (λ s p. IsPlain-later n1.cells n2.cells n1.group s.bound g2.extends from.node.place p) in
+    let third : IsPiece n2 new from.node node width 0 0 = IsPiece-node from.node node width some2 (slice_get_within new.cells node.place _ (cell_of_added a)) a refl refl (IsOfControl-later n1.cells n2.cells bit.place g2.extends c.bit_of.control)
     (λ s p.
     let later : (place : ℕ) → IsPlain n2.cells n2.group place → IsPlain new.cells n2.group place = IsPlain-later n2.cells new.cells n2.group s.bound g3.extends in
     chooses node.place _ bit from.node zero_node (cell_of_added a) refl

@@ -10,10 +10,12 @@ use Rattle.net_graph.proofs.DepthLemmas.{IsPlain-later}
 use Rattle.net_graph.proofs.GrowLemmas.{Grows-refl, Grows-trans}
 use Rattle.pipeline_balance.specs.Costs.{SameAdders, SameNamed}
 use Rattle.pipeline_balance.specs.Gate.{AddsGate}
+use Rattle.pipeline_balance.specs.Shapes.{KeepsShapes}
 use Rattle.pipeline_balance.specs.Numbered.{IsCounted, IsTouched, LeavesFree}
 use Rattle.pipeline_balance.proofs.CostLemmas.{SameNamed-refl, SameNamed-trans}
 use Rattle.pipeline_balance.proofs.NumberedLemmas.{LeavesFree-refl, LeavesFree-trans, IsRegister-later, IsCounted-leaves}
 use Rattle.pipeline_balance.proofs.ShallowLemmas.{shallow_more}
+use Rattle.pipeline_balance.proofs.ShapeLemmas.{KeepsShapes-refl, KeepsShapes-trans}
 use Rattle.net_graph.specs.Grow.{Extends, Grows}
 use Rattle.net_graph.specs.declared.cell.Cell.{Cell}
 use Rattle.std.proofs.Common.{List}
@@ -33,11 +35,12 @@ IsPiece-none net from width inside = record {
   wide = λ count c j h. absurd (omega arith);
   shallow = λ s p. s;
   plain = λ s p. p;
+  linear = KeepsShapes-refl net.cells;
 }
 
 -- nodes of control lead from a node to itself
-pub IsPiece-control : {old new : NetView} (from : Node) (width : ℕ) → 1 ≤ old.group → from.place < length old.cells → Grows old new → SameAdders old.cells new.cells → SameNamed old.cells new.cells → LeavesFree old.cells new.cells (λ name. name.kind ≡ Control) → IsPiece old new from from width 0 0
-IsPiece-control {old} {new} from width some inside g adders named names = record {
+pub IsPiece-control : {old new : NetView} (from : Node) (width : ℕ) → 1 ≤ old.group → from.place < length old.cells → Grows old new → SameAdders old.cells new.cells → SameNamed old.cells new.cells → LeavesFree old.cells new.cells (λ name. name.kind ≡ Control) → KeepsShapes old.cells new.cells → IsPiece old new from from width 0 0
+IsPiece-control {old} {new} from width some inside g adders named names linear = record {
   grows = g;
   within = let l = g.extends.longer in omega arith;
   adds = adders.each old.group some ∙ omega arith;
@@ -49,10 +52,11 @@ IsPiece-control {old} {new} from width some inside g adders named names = record
   wide = λ count c j h. absurd (omega arith);
   shallow = λ s p. shallow_more old.group some g adders s;
   plain = λ s p. IsPlain-later old.cells new.cells old.group s.bound g.extends from.place p;
+  linear = linear;
 }
 
 pub IsPiece-gate : {old new : NetView} {period offset : ℕ} {gate : Option Node} (from : Node) (width : ℕ) → 1 ≤ old.group → from.place < length old.cells → AddsGate old new period offset gate → IsPiece old new from from width 0 0
-IsPiece-gate from width some inside g = IsPiece-control from width some inside g.grows g.adders g.named g.names
+IsPiece-gate from width some inside g = IsPiece-control from width some inside g.grows g.adders g.named g.names g.linear
 
 pub IsPiece-then : {a b c : NetView} {from mid to : Node} {width r s m n : ℕ} → IsPiece a b from mid width r m → IsPiece b c mid to width s n → IsPiece a c from to width (r + s) (m + n)
 IsPiece-then {a} {b} {c} {from} {mid} {to} {width} {r} {s} {m} {n} p q =
@@ -84,6 +88,7 @@ IsPiece-then {a} {b} {c} {from} {mid} {to} {width} {r} {s} {m} {n} p q =
           let s1 : IsShallow b.cells b.group = subst (λ (g : ℕ). IsShallow b.cells g) (sym same) (p.shallow s p1) in
           let plain : IsPlain b.cells b.group mid.place = subst (λ (g : ℕ). IsPlain b.cells g mid.place) (sym same) (p.plain s p1) in
           subst (λ (g : ℕ). IsPlain c.cells g to.place) same (q.plain s1 plain);
+      linear = KeepsShapes-trans p.linear q.linear;
     }
 
 -- the same piece, counted anew

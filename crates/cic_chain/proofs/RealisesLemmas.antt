@@ -50,10 +50,10 @@ own_register group name (inl h) = inl h.0
 own_register group name (inr h) = inr h
 
 -- what a piece of registers says of any stage
-pub Realises-piece : {old new : NetView} {from to : Stream} {width registers adders : ℕ} (streams : Streams) (facts : StageFacts) (emitted : Emitted) → emitted.stream ≡ to → is_linear facts.kind ≡ false → from.node.place < length old.cells
+pub Realises-piece : {old new : NetView} {from to : Stream} {width registers adders : ℕ} (streams : Streams) (facts : StageFacts) (emitted : Emitted) → emitted.stream ≡ to → is_linear facts.kind ≡ false → 1 ≤ old.group → from.node.place < length old.cells
     → IsPiece old new from.node to.node width registers adders → adders ≡ facts.adders → facts.windows ≡ 0 → facts.tables ≡ 0 → to.period * facts.up ≡ from.period * facts.down → to.offset ≡ from.offset + facts.delay from.period
     → CarriesThrough cut_all streams facts.elements new.cells from to → CarriesThrough cut_control streams facts.elements new.cells from to → Realises facts streams old new from emitted
-Realises-piece {old} {new} {from} {to} streams facts emitted is not_linear inside p adders windows tables period offset carries uncut = record {
+Realises-piece {old} {new} {from} {to} streams facts emitted is not_linear data_group inside p adders windows tables period offset carries uncut = record {
   grows = p.grows;
   within = rw is p.within;
   period = rw is period;
@@ -65,6 +65,7 @@ Realises-piece {old} {new} {from} {to} streams facts emitted is not_linear insid
   tables = let n = p.named.tables old.group in omega (arith, n, tables);
   names = record { free = λ name other f. p.names.free name (λ h. other (own_register old.group name h)) f };
   shallow = λ bound none. p.shallow (IsShallow-none old.cells old.group bound none) (IsPlain-untouched old.cells old.group from.node.place none inside);
+  shapes = λ kind. p.linear.each old.group data_group;
   registers = λ linear. absurd (cc);
 }
 
@@ -91,11 +92,11 @@ module _ (streams : Streams) (factor stages delay : ℕ) where
       subst (FitsWidth width) (sym (down_value v n))
       (fits_between width range.lo (filter (moving_sums stages (factor * delay)) v (pos (n * factor))) range.hi w.holds_low w.holds_high (r.low v is (n * factor) (every_factor factor n)) (r.high v is (n * factor) (every_factor factor n)))
 
-  pub Realises-down : {old new : NetView} {from to : Stream} {width : ℕ} {range : Range} (emitted : Emitted) → emitted.stream ≡ to → AreCausal streams → 1 ≤ stages → from.node.place < length old.cells
+  pub Realises-down : {old new : NetView} {from to : Stream} {width : ℕ} {range : Range} (emitted : Emitted) → emitted.stream ≡ to → AreCausal streams → 1 ≤ stages → 1 ≤ old.group → from.node.place < length old.cells
       → IsRange streams (moving_sums stages (factor * delay)) (record { modulus = factor; residue = 0 }) range → IsLeastWidth range.lo range.hi width
       → AddsDecimator old new from width factor stages delay to → Realises (cic_down_facts factor stages delay) streams old new from emitted
-  Realises-down {old} {new} {from} {to} {width} {range} emitted is causal some inside r w d =
-      Realises-piece streams (cic_down_facts factor stages delay) emitted is refl inside d.piece (omega arith) refl refl (let p = d.period in omega (arith, p)) d.offset
+  Realises-down {old} {new} {from} {to} {width} {range} emitted is causal some data_group inside r w d =
+      Realises-piece streams (cic_down_facts factor stages delay) emitted is refl data_group inside d.piece (omega arith) refl refl (let p = d.period in omega (arith, p)) d.offset
       (λ inputs values v in_streams run carried n.
       d.decimates cut_all IsCut-all inputs values run (pos n)
       ∙ ap (λ (x : Sequence). decimator (wrap width) factor stages delay x (pos n)) (carried_is streams causal values from v in_streams carried)
@@ -133,11 +134,11 @@ module _ (streams : Streams) (factor stages delay : ℕ) where
   fast_is : (q period : ℕ) → 1 ≤ factor → q * factor ≡ period → q ≡ period / factor
   fast_is q period some e = sym (ap (λ (n : ℕ). n / factor) (sym e) ∙ mul-div_cancel q some)
 
-  pub Realises-up : {old new : NetView} {from to : Stream} {width : ℕ} {range : Range} (emitted : Emitted) → emitted.stream ≡ to → AreCausal streams → 1 ≤ stages → 1 ≤ factor → from.node.place < length old.cells
+  pub Realises-up : {old new : NetView} {from to : Stream} {width : ℕ} {range : Range} (emitted : Emitted) → emitted.stream ≡ to → AreCausal streams → 1 ≤ stages → 1 ≤ factor → 1 ≤ old.group → from.node.place < length old.cells
       → IsPhaseRange streams (moving_sums stages (factor * delay)) factor factor range → IsLeastWidth range.lo range.hi width
       → AddsInterpolator old new from width factor stages delay to → Realises (cic_up_facts factor stages delay) streams old new from emitted
-  Realises-up {old} {new} {from} {to} {width} {range} emitted is causal some factor_some inside r w d =
-      Realises-piece streams (cic_up_facts factor stages delay) emitted is refl inside d.piece (omega arith) refl refl (let p = d.period in omega (arith, p))
+  Realises-up {old} {new} {from} {to} {width} {range} emitted is causal some factor_some data_group inside r w d =
+      Realises-piece streams (cic_up_facts factor stages delay) emitted is refl data_group inside d.piece (omega arith) refl refl (let p = d.period in omega (arith, p))
       (d.offset ∙ ap (λ (q : ℕ). from.offset + (stages + (stages - 1) * q + 1)) (fast_is to.period from.period factor_some d.period))
       (λ inputs values v in_streams run carried n.
       d.interpolates cut_all IsCut-all inputs values run (pos n)

@@ -21,6 +21,7 @@ use Rattle.pipeline_balance.specs.Gate.{IsGate, AddsGate, HasTaken}
 use Rattle.pipeline_balance.specs.Numbered.{LeavesFree}
 use Rattle.pipeline_balance.proofs.CostLemmas.{SameNamed-trans, SameNamed-adds}
 use Rattle.pipeline_balance.proofs.NumberedLemmas.{free_adds, IsCounted-leaves}
+use Rattle.pipeline_balance.proofs.ShapeLemmas.{KeepsShapes-trans, KeepsShapes-adds}
 use Rattle.pipeline_balance.proofs.TakenLemmas.{IsGate-later}
 use Rattle.cic_chain.specs.Cascade.{integrator, earlier, comb, integrators, combs}
 use Rattle.cic_chain.specs.Pieces.{IsPiece, AddsHeld, AddsIntegrator, AddsIntegrators, AddsComb, AddsCombs, sampled, at_ticks}
@@ -122,6 +123,7 @@ sub_piece {old} {mid} {new} {from} {last} {difference} {width} {registers} some 
           let right : IsPlain mid.cells mid.group last.place = subst (λ (k : ℕ). IsPlain mid.cells k last.place) (sym same) (p.plain s plain) in
           subst (λ (k : ℕ). IsShallow new.cells k) same (IsShallow-adds a s1 (left, right));
       plain = λ s plain. IsPlain-later old.cells new.cells old.group s.bound grows.extends from.place plain;
+      linear = KeepsShapes-trans p.linear (KeepsShapes-adds a tt);
     }
 
 pub AddsComb-circuit : {old mid sub new : NetView} {gate : Option Node} {last difference to : Node} (from : Stream) (width delay : ℕ) → 1 ≤ from.period → 1 ≤ width → 1 ≤ old.group → from.node.place < length old.cells → IsDelayed old mid from gate width delay last
@@ -138,6 +140,7 @@ AddsComb-circuit {old} {mid} {sub} {new} {gate} {last} {difference} {to} from wi
       wide = a.piece.wide;
       shallow = λ shallow plain. a.shallow shallow;
       plain = λ shallow plain. a.plain;
+      linear = a.piece.linear;
     } in
     record {
       piece = IsPiece-counts refl (omega arith) (IsPiece-then first second);

@@ -30,7 +30,9 @@ use Rattle.pipeline_balance.specs.Gate.{IsGate, HasTaken, taken_value}
 use Rattle.pipeline_balance.specs.Numbered.{AddsNext, IsRegister, IsCounted, IsTouched, LeavesFree, name_of}
 use Rattle.pipeline_balance.proofs.CostLemmas.{SameAdders-refl, SameAdders-plain, SameNamed-refl, SameNamed-trans, SameNamed-adds, SameNamed-register, SameNamed-bind}
 use Rattle.pipeline_balance.proofs.NumberedLemmas.{free_register, free_adds, free_bind, IsCounted-more, least_is}
-use Rattle.pipeline_balance.proofs.TakenLemmas.{taken_last, taken_value-same}
+use Rattle.pipeline_balance.specs.Shapes.{KeepsShapes}
+use Rattle.pipeline_balance.proofs.ShapeLemmas.{KeepsShapes-refl, KeepsShapes-trans, KeepsShapes-adds, KeepsShapes-register, KeepsShapes-bind}
+use Rattle.pipeline_balance.proofs.TakenLemmas.{IsGate-later, taken_last, taken_value-same}
 use Rattle.cic_chain.specs.Pieces.{HasRegister, IsPiece, IsNext, Steps, AddsHeld, AddsIntegrator}
 
 -- ---- the next of a register
@@ -56,6 +58,11 @@ module _ (mid last : NetView) (node register next : Node) (width : ℕ) where
   next_free None x name f = subst (λ (n : NetView). IsFree n.cells name) (sym x.0) f
   next_free (Some on) x name f = free_adds x name f
 
+  -- the register is chosen by a bit of control
+  next_linear : (period first : ℕ) (gate : Option Node) → IsGate mid.cells period first gate → IsNext mid last gate node register width next → KeepsShapes mid.cells last.cells
+  next_linear period first None is_gate x = subst (λ (n : NetView). KeepsShapes mid.cells n.cells) (sym x.0) (KeepsShapes-refl mid.cells)
+  next_linear period first (Some on) is_gate x = KeepsShapes-adds x is_gate.control
+
 chosen_cut : (cut : ℤ → ℤ) (on a b : ℤ) → cut b ≡ b → cut (chosen on a b) ≡ chosen on (cut a) b
 chosen_cut cut (pos zero) a b e = e
 chosen_cut cut (pos (suc n)) a b e = refl
@@ -76,6 +83,7 @@ pub record IsBegun (old mid : NetView) (register : Node) (number width adders : 
   pub adds : adders_in old.group mid.cells ≡ adders_in old.group old.cells + adders
   pub named : SameNamed old.cells mid.cells
   pub free : (name : Name) → (name ≡ name_of old.group Register number → ⊥) → IsFree old.cells name → IsFree mid.cells name
+  pub linear : KeepsShapes old.cells mid.cells
 
 module _ (old mid last new : NetView) (gate : Option Node) (node register next : Node) (number width adders : ℕ) (begun : IsBegun old mid register number width adders) (x : IsNext mid last gate node register width next) (b : IsBoundTo last new register next) where
   mid_some : 1 ≤ mid.group
@@ -146,8 +154,14 @@ module _ (old mid last new : NetView) (gate : Option Node) (node register next :
   touched_own : (name : Name) → name ≡ name_of old.group Register number → IsTouched old.group Register name
   touched_own name e = inl (ap (λ (n : Name). n.group) e, ap (λ (n : Name). n.kind) e)
 
-  pub circuit_piece : (from : Node) → (IsShallow old.cells old.group → IsPlain old.cells old.group from.place → IsShallow new.cells old.group) → IsPiece old new from register width 1 adders
-  circuit_piece from shallow = record {
+  circuit_linear : (period first : ℕ) → IsGate old.cells period first gate → KeepsShapes old.cells new.cells
+  circuit_linear period first is_gate =
+      KeepsShapes-trans begun.linear
+      (KeepsShapes-trans (next_linear mid last node register next width period first gate (IsGate-later old.cells mid.cells period first gate begun.but.extends is_gate) x)
+      (KeepsShapes-bind (Extends-grown all_but begun.wide b) (GrowsBut-unbound all_but) b))
+
+  pub circuit_piece : (from : Node) (period first : ℕ) → IsGate old.cells period first gate → (IsShallow old.cells old.group → IsPlain old.cells old.group from.place → IsShallow new.cells old.group) → IsPiece old new from register width 1 adders
+  circuit_piece from period first is_gate shallow = record {
     grows = circuit_grows;
     within = slice_get_within new.cells register.place _ (cell_of_grown all_but b);
     adds = circuit_adders;
@@ -157,6 +171,7 @@ module _ (old mid last new : NetView) (gate : Option Node) (node register next :
     wide = circuit_wide;
     shallow = shallow;
     plain = λ s p. circuit_plain;
+    linear = circuit_linear period first is_gate;
   }
 
 -- ---- a register that takes a stream
@@ -172,11 +187,12 @@ AddsHeld-circuit {old} {mid} {last} {new} from gate register next width some wid
       adds = adders_register old.group a.adds ∙ omega arith;
       named = SameNamed-register refl refl a.adds;
       free = λ name other f. free_register a.adds name other f;
+      linear = KeepsShapes-register a.adds;
     } in
     let same : adders_in old.group new.cells ≡ adders_in old.group old.cells = circuit_adders old mid last new gate from.node register next a.number width 0 begun x b ∙ omega arith in
     let shallow : IsShallow old.cells old.group → IsShallow new.cells old.group = shallow_same old.group (circuit_grows old mid last new gate from.node register next a.number width 0 begun x b) same in
     record {
-      piece = circuit_piece old mid last new gate from.node register next a.number width 0 begun x b from.node (λ s p. shallow s);
+      piece = circuit_piece old mid last new gate from.node register next a.number width 0 begun x b from.node from.period from.offset is_gate (λ s p. shallow s);
       shallow = shallow;
       plain = circuit_plain old mid last new gate from.node register next a.number width 0 begun x b;
       steps = circuit_steps old mid last new gate from.node register next a.number width 0 begun x b from.period from.offset is_gate;
@@ -241,13 +257,14 @@ AddsIntegrator-circuit {n0} {n1} {n2} {n3} {n4} from gate register sum next widt
       adds = adders_more n0.group s refl a.adds.group ∙ ap (λ (n : ℕ). n + 1) (adders_register n0.group a.adds);
       named = SameNamed-trans (SameNamed-register refl refl a.adds) (SameNamed-adds s);
       free = λ name other f. free_adds s name (free_register a.adds name other f);
+      linear = KeepsShapes-trans (KeepsShapes-register a.adds) (KeepsShapes-adds s tt);
     } in
     let grows = circuit_grows n0 n2 n3 n4 gate sum register next a.number width 1 begun x b in
     let is_register = circuit_register n0 n2 n3 n4 gate sum register next a.number width 1 begun x b in
     let plain = circuit_plain n0 n2 n3 n4 gate sum register next a.number width 1 begun x b in
     let held = circuit_steps n0 n2 n3 n4 gate sum register next a.number width 1 begun x b from.period from.offset is_gate in
     record {
-      piece = circuit_piece n0 n2 n3 n4 gate sum register next a.number width 1 begun x b from.node
+      piece = circuit_piece n0 n2 n3 n4 gate sum register next a.number width 1 begun x b from.node from.period from.offset is_gate
           (λ shallow from_plain.
           IsShallow-more n0.cells n4.cells n0.group grows.extends (grows.bound shallow.bound) shallow
           (adder_takes n0 n1 n2 n3 n4 gate from.node sum register next a.number width a.adds s x b plain (IsPlain-later n0.cells n4.cells n0.group shallow.bound grows.extends from.node.place from_plain) is_register.cell is_register.there (subst (λ (i : Option Item). TakesPlain n4.cells n0.group i) (sym is_register.registered.1) tt)));

@@ -14,6 +14,7 @@ use Rattle.net_graph.specs.Grow.{Grows, Adds}
 use Rattle.net_graph.specs.Run.{Values, IsRun}
 use Rattle.pipeline_balance.specs.Costs.{SameNamed}
 use Rattle.pipeline_balance.specs.Gate.{HasTaken, taken_value, shown}
+use Rattle.pipeline_balance.specs.Shapes.{KeepsShapes}
 use Rattle.pipeline_balance.specs.Numbered.{IsRegister, IsCounted, IsTouched, LeavesFree, name_of}
 use Rattle.cic_chain.specs.Cascade.{integrators, comb, combs, decimator, interpolator}
 
@@ -23,7 +24,8 @@ pub record HasRegister (cells : List Cell) (group number width : ℕ) : Type 0 w
   pub register : IsRegister cells place group (name_of group Register number) width
 
 -- The new net leads from one node to another by so many registers of this width, numbered on from the first free number, and so many
--- adders. No adder stands before another where none stands before `from`, and then none stands before `to`.
+-- adders. No adder stands before another where none stands before `from`, and then none stands before `to`. What is added a linear group
+-- may have.
 pub record IsPiece (old new : NetView) (from to : Node) (width registers adders : ℕ) : Type 0 where
   pub grows : Grows old new
   pub within : to.place < length new.cells
@@ -34,6 +36,7 @@ pub record IsPiece (old new : NetView) (from to : Node) (width registers adders 
   pub wide : (count : ℕ) → IsCounted old.cells old.group Register count → (j : ℕ) → j < registers → HasRegister new.cells old.group (count + j) width
   pub shallow : IsShallow old.cells old.group → IsPlain old.cells old.group from.place → IsShallow new.cells old.group
   pub plain : IsShallow old.cells old.group → IsPlain old.cells old.group from.place → IsPlain new.cells old.group to.place
+  pub linear : KeepsShapes old.cells new.cells
 
 -- what a register's next is: the node itself, or where there is a gate, the node where it is set and else the register
 abbrev pub IsNext : NetView → NetView → Option Node → Node → Node → ℕ → Node → Type 0

@@ -1,8 +1,7 @@
 -- What the text of a plan has to show: each value of the chain at its tick, and nothing at any other tick.
 use Rattle.std.specs.Prelude.{◌≡◌, ℕ, zero, suc, ◌+◌, ◌-◌, ◌*◌, true, List, [], ◌∷◌, ◌++◌, length, map, take, drop, codes, Some, slice_get, ℤ, pos}
-use Rattle.mr_values.specs.Width.{signed, IsLeastWidth}
+use Rattle.mr_values.specs.Width.{IsLeastWidth}
 use Rattle.mr_values.specs.Timing.{Group, ceil_div, groups}
-use Rattle.mr_values.specs.Sequence.{phase}
 use Rattle.mr_values.specs.Value.{val}
 use Rattle.mr_values.specs.declared.plan.Element.{Element}
 use Rattle.verilog_tree.specs.Checks.{Passes}
@@ -11,11 +10,11 @@ use Rattle.verilog_tree.specs.Meaning.{Values}
 use Rattle.module_laws.specs.Running.{HasRuns}
 use Rattle.uncut_runs.specs.Exists.{HasOneUncutRun}
 use Rattle.verilog_tree.specs.Names.{shapes_of, number_of}
-use Rattle.verilog_tree.specs.Shown.{Cycle, Event, RunsOver, EachFits, ports_of, events_of}
+use Rattle.verilog_tree.specs.Shown.{Cycle, Event, ports_of, events_of}
 use Rattle.verilog_tree.specs.Tree.{Design}
 use Rattle.verilog_tree.specs.Uncut.{Numbers, IsUncutRun, number_at}
 use Rattle.verilog_text.specs.Reading.{Reads}
-use Rattle.net_module.specs.Steps.{HasNoReset, tick_data, ticks_in, pair_of}
+use Rattle.net_module.specs.Steps.{ticks_in, pair_of}
 use Rattle.filter_text.specs.Runs.{samples_in, IsRunFrom}
 use Rattle.filter_text.specs.Registers.{HasLinearRegisters, AreLeastRegisters}
 use Rattle.chain_build.specs.Added.{HasFacts}

@@ -29,6 +29,7 @@ use Rattle.pipeline_balance.specs.Bits.{IsBitsFor}
 use Rattle.pipeline_balance.proofs.WrapLemmas.{wrap-+, wrap_twice, wrap_apart, wrap-one, equality-same, equality_apart}
 use Rattle.pipeline_balance.proofs.CostLemmas.{SameAdders-trans, SameAdders-register, SameAdders-plain, SameAdders-control, SameAdders-bind, SameNamed-trans, SameNamed-adds, SameNamed-register, SameNamed-bind}
 use Rattle.pipeline_balance.proofs.NumberedLemmas.{free_register, free_adds, free_bind}
+use Rattle.pipeline_balance.proofs.ShapeLemmas.{KeepsShapes-trans, KeepsShapes-control, KeepsShapes-register, KeepsShapes-bind}
 
 pub wrap-set_bit : wrap 1 set_bit ≡ set_bit
 wrap-set_bit = wrap_fits 1 (negsuc 0) (omega arith) (fits_in 1 (negsuc 0) (omega arith) (omega arith))
@@ -217,6 +218,7 @@ IsCounter-circuit {n0} {n1} {n2} {n3} {n4} {n5} {n6} {n7} {n8} {w} {period} {fir
       nameless = refl;
       bit_of = record {
         within = slice_get_within n8.cells done.place _ there;
+        control = record { cell = _; there = there; control = nameless_zero n4.group g4 };
         sets = λ cut law x v r. sets v w period first count last restart one done more next wide positive room_first room_period (counts p7 x7 cut law x v r);
         clears = λ cut law x v r. clears v w period first count last restart one done more next wide positive room_first room_period (counts p7 x7 cut law x v r);
       };
@@ -228,6 +230,8 @@ IsCounter-circuit {n0} {n1} {n2} {n3} {n4} {n5} {n6} {n7} {n8} {w} {period} {fir
           (SameAdders-trans (SameAdders-plain a5 refl) (SameAdders-trans (SameAdders-control g5 a6) (SameAdders-trans (SameAdders-plain a7 refl) (SameAdders-bind (GrowsBut-unbound p7) b)))))));
       named = SameNamed-trans (SameNamed-register refl refl a1.adds) (SameNamed-trans (SameNamed-adds a2) (SameNamed-trans (SameNamed-adds a3) (SameNamed-trans (SameNamed-adds a4)
           (SameNamed-trans (SameNamed-adds a5) (SameNamed-trans (SameNamed-adds a6) (SameNamed-trans (SameNamed-adds a7) (SameNamed-bind (GrowsBut-unbound p7) b)))))));
+      linear = KeepsShapes-trans (KeepsShapes-register a1.adds) (KeepsShapes-trans (KeepsShapes-control g1 a2) (KeepsShapes-trans (KeepsShapes-control g2 a3) (KeepsShapes-trans (KeepsShapes-control g3 a4)
+          (KeepsShapes-trans (KeepsShapes-control g4 a5) (KeepsShapes-trans (KeepsShapes-control g5 a6) (KeepsShapes-trans (KeepsShapes-control g6 a7) (KeepsShapes-bind x7 (GrowsBut-unbound p7) b)))))));
     }
   where
     counts : GrowsBut n0 n7 count (record { group = n0.group; name = Some (name_of 0 Control a1.number); width = w; item = None }) → Extends n7.cells n8.cells → (cut : Cut) → IsCut cut → (x : ℕ → ℤ) (v : Values) → IsRun cut n8.cells x v → Counts v w first (pos (first + 1) -ℤ pos period) count last restart one done more next
@@ -304,5 +308,6 @@ IsCounter-regroup {old} {mid} {new} {last} {ticks} {bit} {group} same first put_
       names = q.names;
       adders = q.adders;
       named = q.named;
+      linear = q.linear;
     } in
     subst (λ (m : NetView). IsCounter old m ticks bit) (sym (put_back ∙ ap (λ (g : ℕ). let n : NetView = record { cells = new.cells; group = g } in n) same)) r

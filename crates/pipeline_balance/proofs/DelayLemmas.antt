@@ -15,6 +15,7 @@ use Rattle.pipeline_balance.specs.Gate.{HasTaken, IsTaken}
 use Rattle.pipeline_balance.specs.Leaves.{delayed}
 use Rattle.pipeline_balance.specs.Phase.{IsDelay}
 use Rattle.pipeline_balance.proofs.CostLemmas.{SameAdders-refl, SameAdders-trans, SameNamed-refl, SameNamed-trans}
+use Rattle.pipeline_balance.proofs.ShapeLemmas.{KeepsShapes-refl, KeepsShapes-trans}
 use Rattle.pipeline_balance.proofs.WindowLemmas.{SameNamed-taken}
 use Rattle.pipeline_balance.proofs.NumberedLemmas.{LeavesFree-refl, LeavesFree-trans, IsCounted-more, least_is}
 
@@ -33,6 +34,7 @@ IsDelay-none net from h = record {
   names = LeavesFree-refl net.cells (IsTouched net.group Register);
   adders = SameAdders-refl net.cells;
   named = SameNamed-refl net.cells;
+  linear = KeepsShapes-refl net.cells;
 }
 
 pub IsDelay-more : {a b c : NetView} {from last to : Node} {ticks group number : ℕ} → group ≡ a.group → IsDelay a b from ticks last → IsLeastFree b.cells group Register number → IsTaken b c (record { node = last; period = 1; offset = 0 }) (name_of group Register number) to → IsDelay a c from (suc ticks) to
@@ -52,6 +54,7 @@ IsDelay-more {a} {b} {c} {from} {last} {to} {ticks} {group} {number} same p leas
       (λ name h. inl (ap (λ (n : Name). n.group) h ∙ same, ap (λ (n : Name). n.kind) h)) p.names t.names;
   adders = SameAdders-trans p.adders t.adders;
   named = SameNamed-trans p.named (SameNamed-taken refl refl t);
+  linear = KeepsShapes-trans p.linear t.linear;
 }
   where
     step : (cut : Cut) → IsCut cut → (x : ℕ → ℤ) (v : Values) → IsRun cut c.cells x v → (s : ℕ) → v s to.place ≡ delayed (suc ticks) s (λ u. v u from.place)

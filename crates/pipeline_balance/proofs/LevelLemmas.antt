@@ -18,6 +18,7 @@ use Rattle.net_graph.specs.WellFormed.{IsBound}
 use Rattle.net_graph.proofs.DepthLemmas.{IsPlain-later}
 use Rattle.pipeline_balance.proofs.ShallowLemmas.{HasPlainLeaves-later, HasPlainLeaves-segment}
 use Rattle.pipeline_balance.proofs.CostLemmas.{SameNamed-refl, SameNamed-trans}
+use Rattle.pipeline_balance.proofs.ShapeLemmas.{KeepsShapes-refl, KeepsShapes-trans}
 use Rattle.pipeline_balance.proofs.NumberedLemmas.{IsRegister-later, LeavesFree-refl, LeavesFree-trans}
 use Rattle.pipeline_balance.proofs.PairLemmas.{IsSum-later}
 
@@ -74,7 +75,7 @@ LevelSoFar-start net leaves widths first = record {
   grows = Grows-refl net;
   counts = omega arith;
   same_named = SameNamed-refl net.cells;
-  sums = record { shallow = λ s plain. s };
+  sums = record { shallow = λ s plain. s; linear = KeepsShapes-refl net.cells };
   plain = λ bound. record { each = λ j term is. absurd (cc) };
   each = λ j term is. absurd (cc);
   named = λ count c j term is. absurd (cc);
@@ -106,6 +107,7 @@ LevelSoFar-step {old} {net} {new} {leaves} {widths} {first} {terms} {term} p a =
             let pair = HasPlainLeaves-segment net.cells old.group 1 (length terms) leaves plain1 in
             subst (λ (g : ℕ). IsShallow new.cells g) same
             (a.sums.shallow (subst (λ (g : ℕ). IsShallow net.cells g) (sym same) s1) (subst (λ (g : ℕ). HasPlainLeaves net.cells g (segment 1 (length terms) leaves)) (sym same) pair));
+        linear = KeepsShapes-trans p.sums.linear a.sums.linear;
       };
       plain = λ bound. record {
         each = λ j found is. elim (slice_get_push_cases terms term j found is) [

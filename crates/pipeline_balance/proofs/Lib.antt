@@ -1,5 +1,6 @@
 pub mod WrapLemmas
 pub mod CostLemmas
+pub mod ShapeLemmas
 pub mod NumberedLemmas
 pub mod TakenLemmas
 pub mod CounterLemmas

@@ -8,7 +8,7 @@ use Rattle.mr_values.specs.Width.{wrap}
 use Rattle.net_graph.proofs.CellLemmas.{cell_at-there, cell_at-is}
 use Rattle.net_graph.proofs.GroupLemmas.{nameless_data}
 use Rattle.net_graph.proofs.NetLemmas.{Extends-adds, IsRun-keeps, cell_of_added}
-use Rattle.net_graph.proofs.GrowLemmas.{Grows-refl, Grows-trans, Grows-data, GrowsBut-register, GrowsBut-unbound, Grows-bind, cell_of_grown}
+use Rattle.net_graph.proofs.GrowLemmas.{Grows-refl, Grows-trans, Grows-data, GrowsBut-register, GrowsBut-unbound, Grows-bind, Extends-grown, cell_of_grown}
 use Rattle.net_graph.proofs.CountLemmas.{adders_plain, adders_more, adders_register, adders_bind}
 use Rattle.net_graph.specs.declared.cell.Cell.{Cell}
 use Rattle.net_graph.specs.declared.cell.Node.{Node}
@@ -32,6 +32,7 @@ use Rattle.pipeline_balance.specs.Shallow.{PassesPlain, SumsPlain, SumsLeaves}
 use Rattle.net_graph.specs.Depth.{IsPlain, IsShallow}
 use Rattle.net_graph.proofs.DepthLemmas.{IsPlain-later}
 use Rattle.pipeline_balance.proofs.ShallowLemmas.{shallow_same, plain_register}
+use Rattle.pipeline_balance.proofs.ShapeLemmas.{KeepsShapes-trans, KeepsShapes-register, KeepsShapes-bind}
 use Rattle.pipeline_balance.proofs.CostLemmas.{SameNamed-refl, SameNamed-trans, SameNamed-adds, SameNamed-register, SameNamed-bind}
 use Rattle.pipeline_balance.proofs.NumberedLemmas.{width-later, free_adds, free_register, free_bind, LeavesFree-refl, LeavesFree-trans, IsCounted-leaves, IsCounted-more, least_is}
 
@@ -123,6 +124,7 @@ TakesNode-bound {old} {mid} {new} {register} {from} {width} {group} data_group s
       least = subst (λ (g : ℕ). IsLeastFree old.cells g Register a.number) same a.least;
       register = subst (λ (n : Name). IsRegister new.cells register.place old.group n width) name_is (record { cell = _; there = there; of_group = refl; named = refl; wide = refl; registered = (from, refl) });
       names = subst (λ (n : Name). LeavesFree old.cells new.cells (λ name. name ≡ n)) name_is (record { free = λ name other f. free_bind (GrowsBut-unbound p) b name (free_register a.adds name other f) });
+      linear = KeepsShapes-trans (KeepsShapes-register a.adds) (KeepsShapes-bind (Extends-grown p wide b) (GrowsBut-unbound p) b);
       starts = λ cut law x v r. (r.each register.place _ there).0;
       steps = λ cut law x v r t. (r.each register.place _ there).1 t;
     }
@@ -215,7 +217,7 @@ module _ {old mid new : NetView} {from register : Node} {width : ℕ} (adders : 
       starts = g.starts;
       holds = λ cut law x v r t fits. g.steps cut law x v r t ∙ is cut law x v (g.grows.extends.runs cut law x v r) t fits;
     };
-    sums = record { shallow = λ s plain. shallow_after (sums.shallow s plain) };
+    sums = record { shallow = λ s plain. shallow_after (sums.shallow s plain); linear = KeepsShapes-trans sums.linear g.linear };
     plain = plain_register old.group g.register;
     named = named_after;
     counted = counted_after;
@@ -242,6 +244,7 @@ sums_two {old} {n1} {n2} {n3} {left} {right} a b g1 g2 g3 pl pr ps = record {
       let b_mid : IsPlain n1.cells n1.group b.node.place = subst (λ (k : ℕ). IsPlain n1.cells k b.node.place) (sym g1.group) (IsPlain-later old.cells n1.cells old.group s.bound g1.extends b.node.place (plain.each 1 b refl)) in
       let b_right : IsPlain n2.cells n2.group right.place = subst (λ (k : ℕ). IsPlain n2.cells k right.place) (sym g2.group) (pr.plain s1.bound b_mid) in
       subst (λ (k : ℕ). IsShallow n3.cells k) both (ps.shallow s2 (subst (λ (k : ℕ). IsPlain n2.cells k left.place) (sym both) a_left) b_right);
+  linear = KeepsShapes-trans pl.linear (KeepsShapes-trans pr.linear ps.linear);
 }
 
 pub AddsSum-two : {old n1 n2 n3 new : NetView} {left right sum register : Node} (a b : Leaf) (width : ℕ) (negative : Bool)
@@ -261,7 +264,7 @@ AddsSum-two {old} {n1} {n2} {n3} {new} {left} {right} {sum} {register} a b width
 pub AddsSum-one : {old mid new : NetView} {held register : Node} (a : Leaf) (width : ℕ) → AddsNode old mid 0 held (λ cut v t. v t a.node.place *ℤ pos (2 ^ a.place)) → TakesNode mid new held width register → PassesPlain old mid a.node held
     → AddsSum old new (a ∷ []) width 0 (record { node = register; place = 0; negative = a.negative })
 AddsSum-one {old} {mid} {new} {held} {register} a width l g p =
-    AddsSum-register 0 l.grows l.counts l.names l.same_named g (a ∷ []) a.negative (sym (just_true a.negative)) (record { shallow = λ s plain. p.shallow s })
+    AddsSum-register 0 l.grows l.counts l.names l.same_named g (a ∷ []) a.negative (sym (just_true a.negative)) (record { shallow = λ s plain. p.shallow s; linear = p.linear })
     (λ cut law x v run t fits. ap (cut false width) (l.computes.holds cut law x v run t ∙ sym (held-one v t a)) ∙ fits)
 
 -- ---- the root

@@ -27,8 +27,10 @@ use Rattle.pipeline_balance.specs.Gate.{IsTickOf, IsBitOf, HasTaken, IsCounter}
 use Rattle.pipeline_balance.specs.Phase.{IsTickOfPhase, IsIndex, IsIndexOf, IsPhases}
 use Rattle.pipeline_balance.proofs.WrapLemmas.{wrap-+, wrap_twice, wrap_apart, wrap-one, equality-same, equality_apart}
 use Rattle.pipeline_balance.specs.Costs.{SameAdders, SameNamed}
+use Rattle.pipeline_balance.specs.Shapes.{KeepsShapes}
 use Rattle.pipeline_balance.proofs.CostLemmas.{SameAdders-trans, SameAdders-register, SameAdders-plain, SameAdders-control, SameAdders-bind, SameNamed-trans, SameNamed-adds, SameNamed-register, SameNamed-bind}
 use Rattle.pipeline_balance.proofs.NumberedLemmas.{free_register, free_adds, free_bind, LeavesFree-trans}
+use Rattle.pipeline_balance.proofs.ShapeLemmas.{KeepsShapes-trans, KeepsShapes-control, KeepsShapes-register, KeepsShapes-bind}
 use Rattle.pipeline_balance.proofs.CounterLemmas.{as_control, constant_control, control_added, control_then, wrap-set_bit, added_anyhow, there_then}
 use Rattle.pipeline_balance.proofs.TakenLemmas.{HasTaken-at, taken, off_tick, tick_is, IsBitOf-later}
 
@@ -170,6 +172,8 @@ IsIndex-circuit {n0} {n1} {n2} {n3} {n4} {n5} {n6} {n7} {n8} {n9} {w} {count} {o
           (SameAdders-trans (SameAdders-plain a5 refl) (SameAdders-trans (SameAdders-control g5 a6) (SameAdders-trans (SameAdders-plain a7 refl) (SameAdders-trans (SameAdders-plain a8 refl) (SameAdders-bind (GrowsBut-unbound p8) b))))))));
       named = SameNamed-trans (SameNamed-register refl refl a1.adds) (SameNamed-trans (SameNamed-adds a2) (SameNamed-trans (SameNamed-adds a3) (SameNamed-trans (SameNamed-adds a4)
           (SameNamed-trans (SameNamed-adds a5) (SameNamed-trans (SameNamed-adds a6) (SameNamed-trans (SameNamed-adds a7) (SameNamed-trans (SameNamed-adds a8) (SameNamed-bind (GrowsBut-unbound p8) b))))))));
+      linear = KeepsShapes-trans (KeepsShapes-register a1.adds) (KeepsShapes-trans (KeepsShapes-control g1 a2) (KeepsShapes-trans (KeepsShapes-control g2 a3) (KeepsShapes-trans (KeepsShapes-control g3 a4)
+          (KeepsShapes-trans (KeepsShapes-control g4 a5) (KeepsShapes-trans (KeepsShapes-control g5 a6) (KeepsShapes-trans (KeepsShapes-control g6 a7) (KeepsShapes-trans (KeepsShapes-control g7 a8) (KeepsShapes-bind x8 (GrowsBut-unbound p8) b))))))));
     }
   where
     numbers : GrowsBut n0 n8 index (record { group = n0.group; name = Some (name_of 0 Control a1.number); width = w; item = None }) → Extends n8.cells n9.cells → (cut : Cut) → IsCut cut → (x : ℕ → ℤ) (v : Values) → IsRun cut n9.cells x v → Numbers v w count on index last none one done more next held
@@ -268,12 +272,14 @@ IsPhase-circuit {n0} {n1} {n2} {n3} {n4} {w} {phase} {on} {index} {number} {same
       nameless = refl;
       bit_of = record {
         within = slice_get_within n4.cells bit.place _ there;
+        control = record { cell = _; there = there; control = nameless_zero n3.group g3 };
         sets = λ cut law x v r. let r0 = grows.extends.runs cut law x v r in phase_sets v w period first count phase on index number same clear bit wide positive below room (chooses cut law x v r) (gate.sets cut law x v r0) (gate.clears cut law x v r0) (counted.holds cut law x v r0);
         clears = λ cut law x v r. let r0 = grows.extends.runs cut law x v r in phase_clears v w period first count phase on index number same clear bit wide positive below room (chooses cut law x v r) (gate.sets cut law x v r0) (gate.clears cut law x v r0) (counted.holds cut law x v r0);
       };
       names = record { free = λ name other f. free_adds a4 name (free_adds a3 name (free_adds a2 name (free_adds a1 name f))) };
       adders = SameAdders-trans (SameAdders-plain a1 refl) (SameAdders-trans (SameAdders-plain a2 refl) (SameAdders-trans (SameAdders-plain a3 refl) (SameAdders-plain a4 refl)));
       named = SameNamed-trans (SameNamed-adds a1) (SameNamed-trans (SameNamed-adds a2) (SameNamed-trans (SameNamed-adds a3) (SameNamed-adds a4)));
+      linear = KeepsShapes-trans (KeepsShapes-control g0 a1) (KeepsShapes-trans (KeepsShapes-control g1 a2) (KeepsShapes-trans (KeepsShapes-control g2 a3) (KeepsShapes-control g3 a4)));
     }
   where
     chooses : (cut : Cut) → IsCut cut → (x : ℕ → ℤ) (v : Values) → IsRun cut n4.cells x v → Chooses v w phase on index number same clear bit
@@ -296,8 +302,8 @@ IsPhase-circuit {n0} {n1} {n2} {n3} {n4} {w} {phase} {on} {index} {number} {same
 pub HasShape-later : (old new : List Cell) (place : ℕ) (control : Bool) (width : ℕ) → Extends old new → HasShape old place control width → HasShape new place control width
 HasShape-later old new place control width e h = let kept = e.keeps place h.cell h.there in record { cell = kept.cell; there = kept.there; same_control = kept.control ∙ h.same_control; same_width = kept.width ∙ h.same_width }
 
-pub IsPhases-none : {old new : NetView} (period first count : ℕ) → Grows old new → LeavesFree old.cells new.cells (λ name. name.kind ≡ Control) → SameAdders old.cells new.cells → SameNamed old.cells new.cells → IsPhases old new period first count []
-IsPhases-none {old} {new} period first count e names adders named = record { grows = e; shapes = λ phase bit is. absurd (cc); each = λ phase bit is. absurd (cc); names = names; adders = adders; named = named }
+pub IsPhases-none : {old new : NetView} (period first count : ℕ) → Grows old new → LeavesFree old.cells new.cells (λ name. name.kind ≡ Control) → SameAdders old.cells new.cells → SameNamed old.cells new.cells → KeepsShapes old.cells new.cells → IsPhases old new period first count []
+IsPhases-none {old} {new} period first count e names adders named linear = record { grows = e; shapes = λ phase bit is. absurd (cc); each = λ phase bit is. absurd (cc); names = names; adders = adders; named = named; linear = linear }
 
 pub IsPhases-push : {a b c : NetView} {period first count : ℕ} (bit : Node) (bits : List Node) → IsPhases a b period first count bits → IsCounter b c (IsTickOfPhase period first count (length bits)) bit → IsPhases a c period first count (bits ++ bit ∷ [])
 IsPhases-push {a} {b} {c} {period} {first} {count} bit bits p q = record {
@@ -313,6 +319,7 @@ IsPhases-push {a} {b} {c} {period} {first} {count} bit bits p q = record {
   names = LeavesFree-trans a.cells b.cells c.cells (λ name. name.kind ≡ Control) (λ name. name.kind ≡ Control) (λ name. name.kind ≡ Control) (λ name h. h) (λ name h. h) p.names q.names;
   adders = SameAdders-trans p.adders q.adders;
   named = SameNamed-trans p.named q.named;
+  linear = KeepsShapes-trans p.linear q.linear;
 }
 
 -- bits that were added as control are added to a net of any group
@@ -334,6 +341,7 @@ IsPhases-regroup {old} {mid} {new} {last} {period} {first} {count} {group} {bits
       names = q.names;
       adders = q.adders;
       named = q.named;
+      linear = q.linear;
     } in
     subst (λ (m : NetView). IsPhases old m period first count bits) (sym (put_back ∙ ap (λ (g : ℕ). let n : NetView = record { cells = new.cells; group = g } in n) same)) r
 

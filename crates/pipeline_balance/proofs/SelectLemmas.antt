@@ -15,10 +15,11 @@ use Rattle.net_graph.specs.Grow.{Extends, Grows, Adds}
 use Rattle.net_graph.proofs.CellLemmas.{cell_at-is}
 use Rattle.net_graph.proofs.GroupLemmas.{nameless_data}
 use Rattle.net_graph.proofs.NetLemmas.{cell_of_added}
-use Rattle.net_graph.proofs.GrowLemmas.{Grows-refl, Grows-trans, Grows-data}
+use Rattle.net_graph.proofs.GrowLemmas.{Grows-refl, Grows-trans, Grows-data, IsOfControl-later}
 use Rattle.pipeline_balance.specs.Phase.{IsPhases, IsOnlySet, IsNarrow, IsSelection}
 use Rattle.pipeline_balance.proofs.CostLemmas.{SameAdders-refl, SameAdders-trans, SameAdders-plain, SameNamed-refl, SameNamed-trans, SameNamed-adds}
 use Rattle.pipeline_balance.proofs.NumberedLemmas.{width-later, free_adds, LeavesFree-refl}
+use Rattle.pipeline_balance.proofs.ShapeLemmas.{KeepsShapes-refl, KeepsShapes-trans, KeepsShapes-adds}
 use Rattle.pipeline_balance.proofs.TakenLemmas.{chosen_kept, node_kept}
 
 pub IsNarrow-later : (old new : List Cell) (width : ℕ) (node : Node) → IsNarrow old width node → Extends old new → IsNarrow new width node
@@ -43,6 +44,7 @@ IsSelection-first net bits nodes width node first narrow = record {
   names = LeavesFree-refl net.cells (λ name. ⊥);
   adders = SameAdders-refl net.cells;
   named = SameNamed-refl net.cells;
+  linear = λ control. KeepsShapes-refl net.cells;
 }
   where
     one : (v : Values) (t phase : ℕ) → phase < 1 → (found : Node) → slice_get nodes phase ≡ Some found → v t node.place ≡ v t found.place
@@ -78,6 +80,7 @@ IsSelection-more {a} {b} {c} {bits} {nodes} {count} {width} {last} {to} bit node
       names = record { free = λ name other f. free_adds m name (p.names.free name other f) };
       adders = SameAdders-trans p.adders (SameAdders-plain m refl);
       named = SameNamed-trans p.named (SameNamed-adds m);
+      linear = λ control. KeepsShapes-trans (p.linear control) (KeepsShapes-adds m (IsOfControl-later a.cells b.cells bit.place p.grows.extends (control count bit at_bit)));
     }
 
 -- ---- by the bits of phases

@@ -17,6 +17,7 @@ use Rattle.pipeline_balance.specs.Costs.{SameAdders}
 use Rattle.pipeline_balance.specs.Leaves.{segment}
 use Rattle.pipeline_balance.specs.Numbered.{IsRegister}
 use Rattle.pipeline_balance.specs.Shallow.{ArePlain, HasPlainLeaves, PassesPlain, KeepsShallow, SumsPlain}
+use Rattle.pipeline_balance.proofs.ShapeLemmas.{KeepsShapes-refl, KeepsShapes-adds}
 
 -- a net that grows without an adder of the group
 pub shallow_same : {old new : NetView} (group : ℕ) → Grows old new → adders_in group new.cells ≡ adders_in group old.cells → IsShallow old.cells group → IsShallow new.cells group
@@ -32,7 +33,7 @@ plain_register {cells} {place} of r = begins place r.cell r.there (ap is_source 
 -- ---- one node
 
 pub PassesPlain-refl : (net : NetView) (node : Node) → PassesPlain net net node node
-PassesPlain-refl net node = record { shallow = λ s. s; plain = λ bound p. p }
+PassesPlain-refl net node = record { shallow = λ s. s; plain = λ bound p. p; linear = KeepsShapes-refl net.cells }
 
 one_shallow : {old new : NetView} {node : Node} {width : ℕ} {item : Item} → Grows old new → Adds old new node width item → is_adder (Some item) ≡ false → IsShallow old.cells old.group → IsShallow new.cells old.group
 one_shallow {old} g a plain = shallow_same old.group g (adders_plain old.group a plain)
@@ -41,16 +42,17 @@ pub PassesPlain-shl : {old new : NetView} {to : Node} (from : Node) (by width : 
 PassesPlain-shl {old} {new} {to} from by width g a = record {
   shallow = one_shallow g a refl;
   plain = λ bound p. passes to.place _ from (cell_of_added a) refl (IsPlain-later old.cells new.cells old.group bound (Extends-adds a) from.place p);
+  linear = KeepsShapes-adds a tt;
 }
 
 pub SumsPlain-add : {old new : NetView} {node : Node} {width : ℕ} (a b : Node) → Adds old new node width (Add a b) → SumsPlain old new a b
-SumsPlain-add a b adds = record { shallow = λ s p q. IsShallow-adds adds s (p, q) }
+SumsPlain-add a b adds = record { shallow = λ s p q. IsShallow-adds adds s (p, q); linear = KeepsShapes-adds adds tt }
 
 pub SumsPlain-sub : {old new : NetView} {node : Node} {width : ℕ} (a b : Node) → Adds old new node width (Sub a b) → SumsPlain old new a b
-SumsPlain-sub a b adds = record { shallow = λ s p q. IsShallow-adds adds s (p, q) }
+SumsPlain-sub a b adds = record { shallow = λ s p q. IsShallow-adds adds s (p, q); linear = KeepsShapes-adds adds tt }
 
 pub SumsPlain-swapped : {old new : NetView} {node : Node} {width : ℕ} (a b : Node) → Adds old new node width (Sub b a) → SumsPlain old new a b
-SumsPlain-swapped a b adds = record { shallow = λ s p q. IsShallow-adds adds s (q, p) }
+SumsPlain-swapped a b adds = record { shallow = λ s p q. IsShallow-adds adds s (q, p); linear = KeepsShapes-adds adds tt }
 
 -- a shifted term, taken from 0
 pub KeepsShallow-negated : {old mid zeroed new : NetView} {held zero_node root : Node} {width wide : ℕ} {v : _} (term : Node) → Grows old mid → PassesPlain old mid term held → Grows mid zeroed → Adds mid zeroed zero_node width (Constant v) → Adds zeroed new root wide (Sub zero_node held)

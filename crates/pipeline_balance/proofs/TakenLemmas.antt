@@ -16,10 +16,11 @@ use Rattle.net_graph.specs.Run.{Values, IsRun}
 use Rattle.net_graph.specs.Grow.{Extends, Grows, Adds, AddsRegister, IsBoundTo}
 use Rattle.net_graph.proofs.CellLemmas.{cell_at-there}
 use Rattle.net_graph.proofs.GroupLemmas.{nameless_data}
-use Rattle.net_graph.proofs.NetLemmas.{IsRun-keeps, cell_of_added}
-use Rattle.net_graph.proofs.GrowLemmas.{GrowsBut, GrowsBut-register, GrowsBut-adds, GrowsBut-unbound, Grows-bind, Extends-grown, cell_of_grown}
+use Rattle.net_graph.proofs.NetLemmas.{IsRun-keeps, cell_of_added, Extends-register}
+use Rattle.net_graph.proofs.GrowLemmas.{IsOfControl-later, GrowsBut, GrowsBut-register, GrowsBut-adds, GrowsBut-unbound, Grows-bind, Extends-grown, cell_of_grown}
 use Rattle.pipeline_balance.proofs.CostLemmas.{SameAdders-trans, SameAdders-register, SameAdders-plain, SameAdders-bind, SameNamed-adds, SameNamed-bind, windows-register, tables-register}
 use Rattle.pipeline_balance.proofs.NumberedLemmas.{free_register, free_adds, free_bind}
+use Rattle.pipeline_balance.proofs.ShapeLemmas.{KeepsShapes-trans, KeepsShapes-adds, KeepsShapes-register, KeepsShapes-bind}
 use Rattle.pipeline_balance.specs.Numbered.{IsRegister}
 use Rattle.pipeline_balance.specs.Gate.{IsTickOf, IsBitOf, IsGate, HasTaken, taken_value, shown, Holds, IsTaken}
 
@@ -96,6 +97,7 @@ chosen_kept cut (negsuc n) a b p q = p
 pub IsBitOf-later : {old new : List Cell} {ticks : ℕ → Type 0} {bit : Node} → IsBitOf old ticks bit → Extends old new → IsBitOf new ticks bit
 IsBitOf-later {old} {new} {ticks} {bit} is e = record {
   within = let l = e.longer in let w = is.within in omega arith;
+  control = IsOfControl-later old new bit.place e is.control;
   sets = λ cut law x v r. is.sets cut law x v (e.runs cut law x v r);
   clears = λ cut law x v r. is.clears cut law x v (e.runs cut law x v r);
 }
@@ -169,6 +171,7 @@ IsTaken-gate {old} {mid} {last} {new} {from} {name} {on} {register} {next} {widt
       adders = SameAdders-trans (SameAdders-register a) (SameAdders-trans (SameAdders-plain m refl) (SameAdders-bind (GrowsBut-unbound p) b));
       windows = λ group. (SameNamed-bind (GrowsBut-unbound p) b).windows group ∙ (SameNamed-adds m).windows group ∙ windows-register group a;
       tables = λ group. (SameNamed-bind (GrowsBut-unbound p) b).tables group ∙ (SameNamed-adds m).tables group ∙ tables-register group a;
+      linear = KeepsShapes-trans (KeepsShapes-register a) (KeepsShapes-trans (KeepsShapes-adds m (IsOfControl-later old.cells mid.cells on.place (Extends-register a) gate.control)) (KeepsShapes-bind bound_last (GrowsBut-unbound p) b));
     }
 
 -- a register that takes a node's value at every tick
@@ -192,6 +195,7 @@ IsTaken-plain {old} {mid} {new} {from} {name} {register} {width} wide inside sam
       adders = SameAdders-trans (SameAdders-register a) (SameAdders-bind (GrowsBut-unbound p) b);
       windows = λ group. (SameNamed-bind (GrowsBut-unbound p) b).windows group ∙ windows-register group a;
       tables = λ group. (SameNamed-bind (GrowsBut-unbound p) b).tables group ∙ tables-register group a;
+      linear = KeepsShapes-trans (KeepsShapes-register a) (KeepsShapes-bind (Extends-grown p wide b) (GrowsBut-unbound p) b);
     }
 
 -- every tick is one of such a stream

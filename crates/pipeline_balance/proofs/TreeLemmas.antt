@@ -28,6 +28,8 @@ use Rattle.pipeline_balance.specs.Shallow.{HasPlainLeaves, KeepsShallow, SumsLea
 use Rattle.net_graph.specs.Depth.{IsPlain, IsShallow}
 use Rattle.pipeline_balance.proofs.ShallowLemmas.{shallow_same}
 use Rattle.pipeline_balance.proofs.CostLemmas.{SameNamed-refl, SameNamed-trans, SameNamed-adds}
+use Rattle.pipeline_balance.specs.Shapes.{KeepsShapes}
+use Rattle.pipeline_balance.proofs.ShapeLemmas.{KeepsShapes-refl, KeepsShapes-trans, KeepsShapes-adds}
 use Rattle.pipeline_balance.proofs.NumberedLemmas.{width-later, IsRegister-later, IsCounted-leaves, LeavesFree-refl, LeavesFree-trans, free_adds}
 use Rattle.pipeline_balance.proofs.PairLemmas.{IsNegatable-later}
 use Rattle.pipeline_balance.proofs.SegmentLemmas.{delayed_same, StandFor, HaveSigns, pair_sum, pair_negative, delayed-signed_by, level_count-zero, level_count-suc, count_to-mono, level_count_one, level_count-none, segment_leaf, segment_all}
@@ -240,6 +242,7 @@ module _ (old mid new : NetView) (leaves terms sums : List Leaf) (widths : List 
           let s1 = p.sums.shallow s plain in
           subst (λ (g : ℕ). IsShallow new.cells g) p.grows.group
           (l.sums.shallow (subst (λ (g : ℕ). IsShallow mid.cells g) (sym p.grows.group) s1) (subst (λ (g : ℕ). HasPlainLeaves mid.cells g terms) (sym p.grows.group) (p.plain s.bound plain)));
+      linear = KeepsShapes-trans p.sums.linear l.sums.linear;
     };
     plain = λ bound plain. subst (λ (g : ℕ). HasPlainLeaves new.cells g sums) p.grows.group (l.plain (p.grows.bound bound));
     named = more_named;
@@ -259,7 +262,7 @@ IsPart-start net leaves widths h = record {
   wide = λ before e. absurd (omega arith);
   adders = refl;
   same_named = SameNamed-refl net.cells;
-  sums = record { shallow = λ s plain. s };
+  sums = record { shallow = λ s plain. s; linear = KeepsShapes-refl net.cells };
   plain = λ bound plain. plain;
   named = λ count c k node is. absurd (cc);
   counted = λ count c. let same : count ≡ count + 0 = omega arith in subst (λ (n : ℕ). IsCounted net.cells net.group Register n) same c;
@@ -337,8 +340,8 @@ module _ (old net : NetView) (leaves terms : List Leaf) (widths : List ℕ) (lev
       by_sign false = omega arith
 
   -- the tree with its root
-  pub IsTree-root : (new : NetView) (term : Leaf) (root : Node) → slice_get terms 0 ≡ Some term → AddsNode net new (one_if term.negative) root (λ cut v t. leaf_value v t term) → KeepsShallow net new term.node → IsTree old new leaves widths levels registers root
-  IsTree-root new term root is n kept = record {
+  pub IsTree-root : (new : NetView) (term : Leaf) (root : Node) → slice_get terms 0 ≡ Some term → AddsNode net new (one_if term.negative) root (λ cut v t. leaf_value v t term) → KeepsShallow net new term.node → KeepsShapes net.cells new.cells → IsTree old new leaves widths levels registers root
+  IsTree-root new term root is n kept shapes = record {
     grows = Grows-trans p.grows n.grows;
     within = n.computes.within;
     held = AreRegisters-later p.held n.grows.extends;
@@ -356,6 +359,7 @@ module _ (old net : NetView) (leaves terms : List Leaf) (widths : List ℕ) (lev
           let s1 = p.sums.shallow s plain in
           let last : IsPlain net.cells net.group term.node.place = subst (λ (g : ℕ). IsPlain net.cells g term.node.place) (sym p.grows.group) ((p.plain s.bound plain).each 0 term is) in
           subst (λ (g : ℕ). IsShallow new.cells g) p.grows.group (kept.shallow (subst (λ (g : ℕ). IsShallow net.cells g) (sym p.grows.group) s1) last);
+      linear = KeepsShapes-trans p.sums.linear shapes;
     };
     same_named = SameNamed-trans p.same_named n.same_named;
     named = λ count c k node found. IsRegister-later n.grows.extends (p.named count c k node found);
@@ -376,7 +380,7 @@ IsTree-none old new leaves widths levels root data_group empty a = rw empty (rec
   sums = λ cut law x v r fits t.
       r.each root.place _ (cell_of_added a) t ∙ ap (λ (c : Bool). cut c 1 (wrap 1 (pos 0))) (nameless_data old.group true data_group) ∙ ap (cut false 1) (wrap_zero 1 (omega arith)) ∙ law.fitting false 1 (pos 0) (omega arith) (FitsWidth-zero 1) ∙ sym (delayed_nothing levels t);
   adders = adders_plain old.group a refl ∙ omega arith;
-  shallow = record { shallow = λ s plain. shallow_same old.group (Grows-data data_group a refl) (adders_plain old.group a refl) s };
+  shallow = record { shallow = λ s plain. shallow_same old.group (Grows-data data_group a refl) (adders_plain old.group a refl) s; linear = KeepsShapes-adds a tt };
   same_named = SameNamed-adds a;
   named = λ count c k node is. absurd (cc);
   counted = λ count c.

@@ -15,8 +15,10 @@ use Rattle.pipeline_balance.specs.Numbered.{IsRegister, IsCounted, IsTouched, Le
 use Rattle.pipeline_balance.specs.Gate.{IsGate, AddsGate, Holds, IsTaken, IsWindow}
 use Rattle.net_graph.specs.Count.{one_if, is_window, is_table, has_kind, windows_in, tables_in}
 use Rattle.pipeline_balance.specs.Costs.{SameAdders, SameNamed}
+use Rattle.pipeline_balance.specs.Shapes.{KeepsShapes}
 use Rattle.pipeline_balance.proofs.CostLemmas.{SameAdders-trans, nothing_more, other_kind}
 use Rattle.pipeline_balance.proofs.NumberedLemmas.{width-later, IsRegister-later, LeavesFree-trans, IsCounted-leaves, IsCounted-more, least_is}
+use Rattle.pipeline_balance.proofs.ShapeLemmas.{KeepsShapes-trans}
 use Rattle.pipeline_balance.proofs.TakenLemmas.{IsGate-later, Holds-later, Holds-more}
 
 -- the last register of a window so far, or the stream's own node
@@ -38,6 +40,7 @@ pub record WindowSoFar (old net : NetView) (from : Stream) (gate : Option Node) 
   pub adders : SameAdders old.cells net.cells
   pub windows : windows_in old.group net.cells ≡ windows_in old.group old.cells + length nodes
   pub tables : tables_in old.group net.cells ≡ tables_in old.group old.cells
+  pub linear : KeepsShapes old.cells net.cells
 
 -- a name of a window is none of control
 window_apart : (group number : ℕ) → (name_of group Window number).kind ≡ Control → ⊥
@@ -59,6 +62,7 @@ WindowSoFar-start {old} {net} {from} {gate} inside g = record {
   adders = g.adders;
   windows = g.named.windows old.group ∙ omega arith;
   tables = g.named.tables old.group;
+  linear = g.linear;
 }
 
 -- what the next register holds
@@ -115,10 +119,11 @@ WindowSoFar-step {old} {net} {new} {from} {gate} {last} {to} {nodes} {group} {nu
           let before = p.windows in
           omega (arith, one, now, before, count);
       tables = t.tables old.group ∙ nothing_more (tables_in old.group net.cells) (one_if (has_kind is_table old.group (Some (name_of group Window number)))) (other_kind is_table old.group (name_of group Window number) refl) ∙ p.tables;
+      linear = KeepsShapes-trans p.linear t.linear;
     }
 
 pub WindowSoFar-window : {old net : NetView} {from : Stream} {gate : Option Node} {last : Node} {nodes : List Node} → WindowSoFar old net from gate last nodes → IsWindow old net from nodes
-WindowSoFar-window p = record { grows = p.grows; holds = p.holds; registers = p.registers; counted = p.counted; names = p.names; adders = p.adders; windows = p.windows; tables = p.tables }
+WindowSoFar-window p = record { grows = p.grows; holds = p.holds; registers = p.registers; counted = p.counted; names = p.names; adders = p.adders; windows = p.windows; tables = p.tables; linear = p.linear }
 
 -- a register that is no window and no table
 pub SameNamed-taken : {old new : NetView} {from : Stream} {name : Name} {to : Node} → is_window name.kind ≡ false → is_table name.kind ≡ false → IsTaken old new from name to → SameNamed old.cells new.cells

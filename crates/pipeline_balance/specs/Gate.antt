@@ -11,18 +11,21 @@ use Rattle.net_graph.specs.Cells.{NetView, cell_at}
 use Rattle.net_graph.specs.Cut.{Cut, IsCut}
 use Rattle.net_graph.specs.Run.{Values, IsRun, HasShape}
 use Rattle.net_graph.specs.Grow.{Grows}
+use Rattle.net_graph.specs.Control.{IsOfControl}
 use Rattle.net_graph.specs.Count.{one_if, is_window, is_table, has_kind, windows_in, tables_in}
 use Rattle.pipeline_balance.specs.Numbered.{IsRegister, IsCounted, IsTouched, LeavesFree, name_of}
 use Rattle.pipeline_balance.specs.Bits.{IsBitsFor}
 use Rattle.pipeline_balance.specs.Costs.{SameAdders, SameNamed}
+use Rattle.pipeline_balance.specs.Shapes.{KeepsShapes}
 
 -- the tick is one of first, first + period, first + 2 * period, ..
 abbrev pub IsTickOf : ℕ → ℕ → ℕ → Type 0
 IsTickOf period first t = (k : ℕ) × (t ≡ first + k * period)
 
--- in every run, however it is cut, the bit is set exactly at the ticks of a kind
+-- the bit is control, and in every run, however it is cut, set exactly at the ticks of a kind
 pub record IsBitOf (cells : List Cell) (ticks : ℕ → Type 0) (bit : Node) : Type 0 where
   pub within : bit.place < length cells
+  pub control : IsOfControl cells bit.place
   pub sets : (cut : Cut) → IsCut cut → (inputs : ℕ → ℤ) (values : Values) → IsRun cut cells inputs values → (t : ℕ) → ticks t → values t bit.place ≡ set_bit
   pub clears : (cut : Cut) → IsCut cut → (inputs : ℕ → ℤ) (values : Values) → IsRun cut cells inputs values → (t : ℕ) → (ticks t → ⊥) → values t bit.place ≡ pos 0
 
@@ -36,6 +39,7 @@ pub record IsCounter (old new : NetView) (ticks : ℕ → Type 0) (bit : Node) :
   pub names : LeavesFree old.cells new.cells (λ name. name.kind ≡ Control)
   pub adders : SameAdders old.cells new.cells
   pub named : SameNamed old.cells new.cells
+  pub linear : KeepsShapes old.cells new.cells
 
 -- the new net has a register of control with the least number of bits, at least 1, that number 0 to `last`
 pub record AddsCount (old new : List Cell) (last : ℕ) : Type 0 where
@@ -58,6 +62,7 @@ pub record AddsGate (old new : NetView) (period offset : ℕ) (gate : Option Nod
   pub names : LeavesFree old.cells new.cells (λ name. name.kind ≡ Control)
   pub adders : SameAdders old.cells new.cells
   pub named : SameNamed old.cells new.cells
+  pub linear : KeepsShapes old.cells new.cells
 
 -- so many of the ticks first, first + period, .. lie before this one
 abbrev pub HasTaken : ℕ → ℕ → ℕ → ℕ → Type 0
@@ -93,6 +98,7 @@ pub record IsTaken (old new : NetView) (from : Stream) (name : Name) (to : Node)
   pub adders : SameAdders old.cells new.cells
   pub windows : (group : ℕ) → windows_in group new.cells ≡ windows_in group old.cells + one_if (has_kind is_window group (Some name))
   pub tables : (group : ℕ) → tables_in group new.cells ≡ tables_in group old.cells + one_if (has_kind is_table group (Some name))
+  pub linear : KeepsShapes old.cells new.cells
 
 -- the new net has registers with the last values of the stream, newest first; where the net's window registers have the numbers
 -- below one, these are numbered on from it; they are so many window registers more of the group
@@ -105,3 +111,4 @@ pub record IsWindow (old new : NetView) (from : Stream) (nodes : List Node) : Ty
   pub adders : SameAdders old.cells new.cells
   pub windows : windows_in old.group new.cells ≡ windows_in old.group old.cells + length nodes
   pub tables : tables_in old.group new.cells ≡ tables_in old.group old.cells
+  pub linear : KeepsShapes old.cells new.cells

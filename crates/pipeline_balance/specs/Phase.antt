@@ -13,6 +13,7 @@ use Rattle.pipeline_balance.specs.Numbered.{IsCounted, IsTouched, LeavesFree}
 use Rattle.pipeline_balance.specs.Costs.{SameAdders, SameNamed}
 use Rattle.pipeline_balance.specs.Gate.{HasTaken, IsBitOf}
 use Rattle.pipeline_balance.specs.Leaves.{delayed}
+use Rattle.pipeline_balance.specs.Shapes.{KeepsShapes}
 
 -- the tick is first + n * period for an n that is `phase` modulo `count`
 abbrev pub IsTickOfPhase : ℕ → ℕ → ℕ → ℕ → ℕ → Type 0
@@ -26,6 +27,7 @@ pub record IsPhases (old new : NetView) (period first count : ℕ) (bits : List 
   pub names : LeavesFree old.cells new.cells (λ name. name.kind ≡ Control)
   pub adders : SameAdders old.cells new.cells
   pub named : SameNamed old.cells new.cells
+  pub linear : KeepsShapes old.cells new.cells
 
 -- in every run, however it is cut, the control node has at every tick the number of values taken before, modulo `count`, in this width
 pub record IsIndexOf (cells : List Cell) (period first count width : ℕ) (index : Node) : Type 0 where
@@ -40,6 +42,7 @@ pub record IsIndex (old new : NetView) (period first count width : ℕ) (index :
   pub names : LeavesFree old.cells new.cells (λ name. name.kind ≡ Control)
   pub adders : SameAdders old.cells new.cells
   pub named : SameNamed old.cells new.cells
+  pub linear : KeepsShapes old.cells new.cells
 
 -- at this tick bit `phase` is set and all others are clear
 pub record IsOnlySet (values : Values) (bits : List Node) (t phase : ℕ) : Type 0 where
@@ -61,6 +64,7 @@ pub record IsSelection (old new : NetView) (bits nodes : List Node) (count width
   pub names : LeavesFree old.cells new.cells (λ name. ⊥)
   pub adders : SameAdders old.cells new.cells
   pub named : SameNamed old.cells new.cells
+  pub linear : ((phase : ℕ) (bit : Node) → slice_get bits phase ≡ Some bit → IsOfControl old.cells bit.place) → KeepsShapes old.cells new.cells
 
 -- The node `to` of the new net, as wide as `from`, has in every run, however it is cut, the value of `from` so many ticks before, by
 -- as many registers with the next free numbers.
@@ -73,3 +77,4 @@ pub record IsDelay (old new : NetView) (from : Node) (ticks : ℕ) (to : Node) :
   pub names : LeavesFree old.cells new.cells (IsTouched old.group Register)
   pub adders : SameAdders old.cells new.cells
   pub named : SameNamed old.cells new.cells
+  pub linear : KeepsShapes old.cells new.cells

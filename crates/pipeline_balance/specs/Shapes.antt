@@ -1,5 +1,5 @@
 -- What the nodes of a linear group compute: sums and differences, shifts up, and choices by control.
-use Rattle.std.specs.Prelude.{◌≡◌, ℕ, List, Option, Some, None, slice_get}
+use Rattle.std.specs.Prelude.{◌≡◌, ℕ, ◌≤◌, List, Option, Some, None, slice_get}
 use Rattle.net_graph.specs.declared.cell.Cell.{Cell}
 use Rattle.net_graph.specs.declared.cell.Item.{Item}
 use Rattle.net_graph.specs.declared.cell.Item.TheVariants.{Input, Constant, Add, Sub, Shl, Shr, Mux, Equal, Bits, Register}
@@ -22,3 +22,7 @@ IsLinearItem cells (Some (Register next)) = Unit {0}
 -- each node of the group computes such an item
 pub record HasLinearItems (cells : List Cell) (group : ℕ) : Type 0 where
   pub each : (place : ℕ) (cell : Cell) → slice_get cells place ≡ Some cell → cell.group ≡ group → IsLinearItem cells cell.item
+
+-- the new net has such nodes alone in each stage's group in which the old net had them alone
+pub record KeepsShapes (old new : List Cell) : Type 0 where
+  pub each : (group : ℕ) → 1 ≤ group → HasLinearItems old group → HasLinearItems new group

@@ -14,6 +14,7 @@ use Rattle.pipeline_balance.specs.Costs.{SameNamed}
 use Rattle.net_graph.specs.Depth.{IsPlain}
 use Rattle.net_graph.specs.WellFormed.{IsBound, IsLeastFree}
 use Rattle.pipeline_balance.specs.Shallow.{HasPlainLeaves, SumsLeaves}
+use Rattle.pipeline_balance.specs.Shapes.{KeepsShapes}
 use Rattle.pipeline_balance.specs.Leaves.{delayed, signed_sum, all_negative, held_sum, segment}
 
 -- a node has this value at each tick of each run, cut or uncut
@@ -48,6 +49,7 @@ pub record TakesNode (old new : NetView) (from : Node) (width : ℕ) (to : Node)
   pub least : IsLeastFree old.cells old.group Register number
   pub register : IsRegister new.cells to.place old.group (name_of old.group Register number) width
   pub names : LeavesFree old.cells new.cells (λ name. name ≡ name_of old.group Register number)
+  pub linear : KeepsShapes old.cells new.cells
   pub starts : (cut : Cut) → IsCut cut → (inputs : ℕ → ℤ) (values : Values) → IsRun cut new.cells inputs values → values 0 to.place ≡ pos 0
   pub steps : (cut : Cut) → IsCut cut → (inputs : ℕ → ℤ) (values : Values) → IsRun cut new.cells inputs values → (t : ℕ) → values (suc t) to.place ≡ cut false width (values t from.place)
 

@@ -7,6 +7,7 @@ ghost use Rattle.net_graph.specs.Grow.{Extends};
 ghost use Rattle.net_graph.specs.Count.{one_if};
 ghost use Rattle.pipeline_balance.specs.Leaves.{IsLeaf, IsNegatable, leaf_value, all_negative};
 ghost use Rattle.pipeline_balance.specs.Shallow.{KeepsShallow};
+ghost use Rattle.pipeline_balance.specs.Shapes.{KeepsShapes};
 ghost use Rattle.pipeline_balance.specs.Tree.{AddsNode, IsTree, count_to};
 
 use crate::level::{add_level, push_nodes};
@@ -29,6 +30,7 @@ fn root_of(net: &mut Net, term: Leaf) -> Result<Node, Memory>
     requires room { term.negative ≡ true → IsNegatable net.old.cells term }
     ensures ok { IfOk result (λ root. AddsNode net.old net.new (one_if term.negative) root (λ cut values t. leaf_value values t term)) }
     ensures shallow { IfOk result (λ _. KeepsShallow net.old net.new term.node) }
+    ensures linear { IfOk result (λ _. KeepsShapes net.old.cells net.new.cells) }
     ensures extends { Extends net.old.cells net.new.cells }
     ensures group { net.new.group ≡ net.old.group }
 {

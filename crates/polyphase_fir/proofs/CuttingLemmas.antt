@@ -21,6 +21,7 @@ use Rattle.pipeline_balance.specs.Numbered.{IsRegister, IsCounted, IsTouched, na
 use Rattle.pipeline_balance.proofs.NumberedLemmas.{free_adds, LeavesFree-refl, LeavesFree-trans, IsCounted-leaves}
 use Rattle.pipeline_balance.proofs.CostLemmas.{SameAdders-refl, SameAdders-trans, SameAdders-plain, SameNamed-refl, SameNamed-adds}
 use Rattle.pipeline_balance.proofs.ShallowLemmas.{plain_register}
+use Rattle.pipeline_balance.proofs.ShapeLemmas.{KeepsShapes-refl, KeepsShapes-trans, KeepsShapes-adds}
 use Rattle.stage_law.specs.Realises.{IsUnused}
 use Rattle.stage_law.specs.Streams.{Streams}
 use Rattle.polyphase_fir.specs.Cutting.{IsNarrowed, AddsWindow}
@@ -36,6 +37,7 @@ IsNarrowed-same net node width within wide = record {
   adders = SameAdders-refl net.cells;
   named = SameNamed-refl net.cells;
   names = LeavesFree-refl net.cells (λ name. ⊥);
+  linear = KeepsShapes-refl net.cells;
 }
 
 pub IsNarrowed-cut : {old new : NetView} {from to : Node} {width : ℕ} → 1 ≤ width → 1 ≤ old.group → Adds old new to width (Shl from 0) → IsNarrowed old new from width to
@@ -51,6 +53,7 @@ IsNarrowed-cut {old} {new} {from} {to} {width} wide data_group a =
       adders = SameAdders-plain a refl;
       named = SameNamed-adds a;
       names = record { free = λ name other f. free_adds a name f };
+      linear = KeepsShapes-adds a tt;
     }
   where
     times_one : (z : ℤ) → z *ℤ pos 1 ≡ z
@@ -110,4 +113,5 @@ AddsWindow-cut {old} {mid} {new} {node} {width} {nodes} streams from unused leas
           subst (λ (g : ℕ). IsCounted new.cells g Window (length nodes)) same (subst (λ (n : ℕ). IsCounted new.cells mid.group Window n) from_none (w.counted 0 counted));
       tables = subst (λ (g : ℕ). tables_in g new.cells ≡ tables_in g mid.cells) same w.tables ∙ n.named.tables old.group;
       names = LeavesFree-trans old.cells mid.cells new.cells (λ name. ⊥) (IsTouched mid.group Window) (IsTouched old.group Window) (λ name no. absurd no) (λ name h. subst (λ (g : ℕ). IsTouched g Window name) same h) n.names w.names;
+      linear = KeepsShapes-trans n.linear w.linear;
     }

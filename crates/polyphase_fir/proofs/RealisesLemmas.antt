@@ -24,6 +24,7 @@ use Rattle.net_graph.proofs.DepthLemmas.{IsShallow-none}
 use Rattle.pipeline_balance.specs.Gate.{HasTaken}
 use Rattle.pipeline_balance.specs.Shallow.{ArePlain}
 use Rattle.pipeline_balance.proofs.ShallowLemmas.{shallow_more}
+use Rattle.pipeline_balance.proofs.ShapeLemmas.{KeepsShapes-trans}
 use Rattle.pipeline_balance.specs.Numbered.{IsCounted, IsTouched, LeavesFree, name_of}
 use Rattle.pipeline_balance.proofs.NumberedLemmas.{LeavesFree-trans, IsCounted-leaves}
 use Rattle.stage_law.specs.declared.stage.Emitted.{Emitted}
@@ -110,6 +111,7 @@ Realises-phases {old} {first} {second} {new} {from} {stream} {window} {roots} {r
           let s1 = shallow_more old.group data_group w.grows w.adders (IsShallow-none old.cells old.group bound none) in
           let s2 = sums.shallow (subst (λ (g : ℕ). IsShallow first.cells g) (sym same) s1) (subst (λ (g : ℕ). ArePlain first.cells g window) (sym same) w.plain) in
           shallow_more old.group data_group s.grows s.adders (subst (λ (g : ℕ). IsShallow second.cells g) same s2);
+      shapes = λ kind. (KeepsShapes-trans w.linear (KeepsShapes-trans p.linear s.linear)).each old.group data_group;
       names =
           LeavesFree-trans old.cells first.cells new.cells (IsTouched old.group Window) (IsOwnName old.group) (IsOwnName old.group) (own_window old.group) (λ name h. h) w.names
           (LeavesFree-trans first.cells second.cells new.cells (IsTouched first.group Register) (λ name. name.kind ≡ Control) (IsOwnName old.group) (λ name h. own_register old.group name (subst (λ (g : ℕ). IsTouched g Register name) same h)) (λ name h. inr h) p.names s.names);

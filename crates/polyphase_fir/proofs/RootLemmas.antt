@@ -29,6 +29,7 @@ use Rattle.pipeline_balance.proofs.TakenLemmas.{Holds-later}
 use Rattle.net_graph.specs.Depth.{IsPlain, IsShallow}
 use Rattle.pipeline_balance.specs.Shallow.{ArePlain}
 use Rattle.pipeline_balance.proofs.ShallowLemmas.{ArePlain-later}
+use Rattle.pipeline_balance.proofs.ShapeLemmas.{KeepsShapes-refl, KeepsShapes-trans}
 use Rattle.stage_law.specs.Streams.{Streams, AreCausal}
 use Rattle.polyphase_fir.specs.declared.held.Held.{Held}
 use Rattle.polyphase_fir.specs.Placed.{placed_terms, adders_for, term_adders, leaf_of}
@@ -142,6 +143,7 @@ AddsRoots-none streams net from levels taps up = record {
   adders = omega arith;
   named = SameNamed-refl net.cells;
   names = LeavesFree-refl net.cells (IsTouched net.group Register);
+  linear = KeepsShapes-refl net.cells;
 }
 
 pub AddsRoots-push : {old mid new : NetView} {from : Stream} {window roots : List Node} {held : List Held} {registers : List Node} {root : Node} {levels : ℕ} (streams : Streams) → AreCausal streams → (taps : List ℤ) (up : ℕ) → length roots < up → 1 ≤ from.period → IsCutWindow streams mid.cells from window → ceil_div (length taps) up ≡ length window
@@ -166,4 +168,5 @@ AddsRoots-push {old} {mid} {new} {from} {window} {roots} {held} {registers} {roo
           subst (λ (n : ℕ). adders_in old.group new.cells ≡ adders_in old.group old.cells + adders_below up taps n) next whole;
       named = SameNamed-trans p.named t.tree.same_named;
       names = LeavesFree-trans old.cells mid.cells new.cells (IsTouched old.group Register) (IsTouched mid.group Register) (IsTouched old.group Register) (λ name h. h) (λ name h. subst (λ (g : ℕ). IsTouched g Register name) same h) p.names t.tree.names;
+      linear = KeepsShapes-trans p.linear t.tree.shallow.linear;
     }

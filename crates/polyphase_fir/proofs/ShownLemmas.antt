@@ -12,6 +12,7 @@ use Rattle.pipeline_balance.specs.Phase.{IsPhases, IsSelection}
 use Rattle.pipeline_balance.proofs.CostLemmas.{SameAdders-refl, SameAdders-trans, SameNamed-refl, SameNamed-trans}
 use Rattle.pipeline_balance.proofs.NumberedLemmas.{LeavesFree-refl, LeavesFree-trans}
 use Rattle.pipeline_balance.proofs.SelectLemmas.{IsSelection-phases}
+use Rattle.pipeline_balance.proofs.ShapeLemmas.{KeepsShapes-refl, KeepsShapes-trans}
 use Rattle.polyphase_fir.specs.Roots.{AddsShown, IsRound}
 use Rattle.polyphase_fir.specs.Order.{IsOrder}
 
@@ -58,6 +59,7 @@ AddsShown-one net roots up down period first count root one round there within =
   adders = SameAdders-refl net.cells;
   named = SameNamed-refl net.cells;
   names = LeavesFree-refl net.cells (λ name. name.kind ≡ Control);
+  linear = KeepsShapes-refl net.cells;
 }
 
 pub AddsShown-select : {a b c : NetView} {bits shown : List Node} {width : ℕ} {to : Node} (roots : List Node) (up down period first count : ℕ) → 1 ≤ period → IsRound up down count → IsOrder roots up down count shown → IsPhases a b period first count bits → IsSelection b c bits shown (length shown) width to → AddsShown a c roots up down period first to
@@ -79,6 +81,7 @@ AddsShown-select {a} {b} {c} {bits} {shown} {width} {to} roots up down period fi
       adders = SameAdders-trans p.adders s.adders;
       named = SameNamed-trans p.named s.named;
       names = LeavesFree-trans a.cells b.cells c.cells (λ name. name.kind ≡ Control) (λ name. ⊥) (λ name. name.kind ≡ Control) (λ name h. h) (λ name no. absurd no) p.names s.names;
+      linear = KeepsShapes-trans p.linear (s.linear (λ phase bit is. (p.each phase bit is).control));
     }
 
 -- the nodes in order stand in the net

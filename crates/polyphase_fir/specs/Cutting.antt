@@ -15,6 +15,7 @@ use Rattle.pipeline_balance.specs.Costs.{SameAdders, SameNamed}
 use Rattle.pipeline_balance.specs.Gate.{Carries, Holds}
 use Rattle.pipeline_balance.specs.Numbered.{IsRegister, IsCounted, LeavesFree, IsTouched, name_of}
 use Rattle.pipeline_balance.specs.Shallow.{ArePlain}
+use Rattle.pipeline_balance.specs.Shapes.{KeepsShapes}
 use Rattle.stage_law.specs.Streams.{Streams}
 use Rattle.polyphase_fir.specs.Held.{IsFormWidth}
 
@@ -27,6 +28,7 @@ pub record IsNarrowed (old new : NetView) (from : Node) (width : ℕ) (to : Node
   pub adders : SameAdders old.cells new.cells
   pub named : SameNamed old.cells new.cells
   pub names : LeavesFree old.cells new.cells (λ name. ⊥)
+  pub linear : KeepsShapes old.cells new.cells
 
 -- each node stands in the net and is at most as wide as the values of the streams need
 pub record IsWideWindow (streams : Streams) (cells : List Cell) (nodes : List Node) : Type 0 where
@@ -55,3 +57,4 @@ pub record AddsWindow (streams : Streams) (old new : NetView) (from : Stream) (n
   pub registers : (age : ℕ) (node : Node) → slice_get nodes age ≡ Some node → IsRegister new.cells node.place old.group (name_of old.group Window age) wide.width
   pub counted : IsCounted new.cells old.group Window (length nodes)
   pub names : LeavesFree old.cells new.cells (IsTouched old.group Window)
+  pub linear : KeepsShapes old.cells new.cells

@@ -13,6 +13,7 @@ use Rattle.net_graph.specs.Grow.{Grows}
 use Rattle.pipeline_balance.specs.Costs.{SameAdders, SameNamed}
 use Rattle.pipeline_balance.specs.Gate.{Carries, HasTaken}
 use Rattle.pipeline_balance.specs.Numbered.{LeavesFree, IsTouched}
+use Rattle.pipeline_balance.specs.Shapes.{KeepsShapes}
 use Rattle.stage_law.specs.Streams.{Streams}
 use Rattle.polyphase_fir.specs.Facts.{adders_below}
 
@@ -29,6 +30,7 @@ pub record AddsRoots (streams : Streams) (old new : NetView) (from : Stream) (le
   pub adders : adders_in old.group new.cells ≡ adders_in old.group old.cells + adders_below up taps (length roots)
   pub named : SameNamed old.cells new.cells
   pub names : LeavesFree old.cells new.cells (IsTouched old.group Register)
+  pub linear : KeepsShapes old.cells new.cells
 
 -- the node `to` of the new net has, at tick first + n * period, the value of the root of phase n * down modulo up
 pub record AddsShown (old new : NetView) (roots : List Node) (up down period first : ℕ) (to : Node) : Type 0 where
@@ -39,6 +41,7 @@ pub record AddsShown (old new : NetView) (roots : List Node) (up down period fir
   pub adders : SameAdders old.cells new.cells
   pub named : SameNamed old.cells new.cells
   pub names : LeavesFree old.cells new.cells (λ name. name.kind ≡ Control)
+  pub linear : KeepsShapes old.cells new.cells
 
 -- the least count, at least 1, of outputs after which the phases come again
 pub record IsRound (up down count : ℕ) : Type 0 where

@@ -102,6 +102,7 @@ Realises-rounding {old} {mid} {new} {from} {sum} {register} {range} {shift} {mod
       (subst (λ (z : ℤ). z ≤ℤ range.hi) (sym shown_is) (value_high streams range r v in_streams k))
       ∙ ap (round_value mode shift) shown_is));
   whole = λ linear. absurd (cc);
+  shapes = λ kind. absurd (cc);
   registers = λ linear. absurd (cc);
   adders = d.same_adders.each old.group data_group ∙ m.counts;
   windows = d.same_named.windows old.group ∙ m.same_named.windows old.group ∙ omega arith;

@@ -1,4 +1,4 @@
--- Which stages are linear, and which carry their elements in whole numbers.
+-- Which stages are linear, which carry their elements in whole numbers, and which have the nodes of a linear group alone.
 use Rattle.std.specs.Prelude.{Bool, true, false}
 use Rattle.stage_law.specs.declared.stage.Kind.{Kind}
 use Rattle.stage_law.specs.declared.stage.Kind.TheVariants.{Parallel, Symmetric, HalfBand, Folded, Distributed, CicDown, CicUp, Rounding}
@@ -24,3 +24,14 @@ carries_uncut Distributed = true
 carries_uncut CicDown = true
 carries_uncut CicUp = true
 carries_uncut Rounding = false
+
+-- its nodes compute sums, differences, constants, shifts up and choices by control, or are registers
+abbrev pub has_linear_shape : Kind → Bool
+has_linear_shape Parallel = true
+has_linear_shape Symmetric = true
+has_linear_shape HalfBand = true
+has_linear_shape Folded = true
+has_linear_shape Distributed = false
+has_linear_shape CicDown = true
+has_linear_shape CicUp = true
+has_linear_shape Rounding = false

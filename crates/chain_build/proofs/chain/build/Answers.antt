@@ -15,7 +15,8 @@ use Rattle.net_graph.specs.Cut.{cut_all}
 use Rattle.net_graph.proofs.CutLemmas.{IsCut-all}
 use Rattle.chain_build.specs.LinearNet.{HasLinearRegisters}
 use Rattle.chain_build.specs.LinearOn.{HasGroupRegisters}
-use Rattle.chain_build.proofs.ChainLemmas.{empty, built-groups, bound3, chain_net, chain_costs, over, carried_from, shows}
+use Rattle.chain_build.specs.Shapes.{HaveLinearItems}
+use Rattle.chain_build.proofs.ChainLemmas.{empty, built-groups, bound3, chain_net, chain_costs, chain_shapes, over, carried_from, shows}
 use Rattle.chain_build.proofs.LinearBuilt.{has_linear}
 use Rattle.plan_laws.proofs.Passes.{passes_of}
 use Rattle.stage_law.specs.declared.ranges.Range.{Range}
@@ -59,6 +60,7 @@ returns c =
     record {
       chain = subst (λ (cells : List Cell). IsChainNet W T es cells c.in_ok-outputs.outputs.out_q c.in_ok-outputs.outputs.out_valid) (sym c.in-Ok.ensures.ok) (chain_net W T es wide first chained linear outs formed);
       costs = subst (λ (cells : List Cell). HasCosts (groups es) c.in_ok-chained.chained.costs.items cells) (sym c.in-Ok.ensures.ok) (chain_costs W T es wide first chained linear outs formed c.in_ok-chained.ensures.costs);
+      shapes = subst (λ (cells : List Cell). HaveLinearItems 1 (groups es) cells) (sym c.in-Ok.ensures.ok) (chain_shapes W T es wide first chained linear outs c.in_ok-chained.ensures.shapes);
       registers = subst (λ (cells : List Cell). HasLinearRegisters W T es cells) (sym c.in-Ok.ensures.ok)
           (has_linear W T es wide first chained outs (over W T es wide first chained linear outs) (carried_from W T es wide first chained linear outs) (shows W T es wide first chained linear outs cut_all IsCut-all chained.carries) formed
           (subst (λ (p : ℕ). HasGroupRegisters W T es c.add_groups.new.net.cells (record { node = c.in_ok-node.node; period = p; offset = 0 })) c.ticks_of.ensures c.in_ok-chained.ensures.registers));

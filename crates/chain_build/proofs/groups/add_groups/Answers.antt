@@ -5,7 +5,7 @@ use Rattle.mr_values.specs.Timing.{groups, input}
 use Rattle.mr_values.specs.Value.{size}
 use Rattle.chain_build.specs.declared.groups.GroupCost.{GroupCost}
 use Rattle.chain_build.specs.Built.{has_rounding}
-use Rattle.chain_build.proofs.CostsSoFar.{CostsSoFar, CostsSoFar-first, CostsSoFar-next, CostsSoFar-end}
+use Rattle.chain_build.proofs.CostsSoFar.{CostsSoFar, CostsSoFar-first, CostsSoFar-next, CostsSoFar-end, shapes-end}
 use Rattle.chain_build.proofs.RegistersSoFar.{RegistersSoFar, RegistersSoFar-start}
 use Rattle.chain_build.proofs.StepAt.{registers_next, registers_end}
 use Rattle.chain_build.proofs.Roundings.{rounded-more}
@@ -53,4 +53,4 @@ loop-fact-preserved c =
 pub returns : goal.returns
 returns c =
     let so = so_all c.args.facts.now.groups.items c.loop-fact.fact-index c.loop-fact.invariant.0.1 (omega (arith, c.deref-fact-items.ensures.len)) in
-    record { ok = SoFar-end so; rounded = c.loop-fact.invariant.0.2 ∙ ap has_rounding (sym (SoFar-all so)); registers = registers_end so c.loop-fact.invariant.0.3; costs = CostsSoFar-end c.loop-fact.invariant.1 (SoFar-none so) }
+    record { ok = SoFar-end so; rounded = c.loop-fact.invariant.0.2 ∙ ap has_rounding (sym (SoFar-all so)); registers = registers_end so c.loop-fact.invariant.0.3; costs = CostsSoFar-end c.loop-fact.invariant.1 (SoFar-none so); shapes = shapes-end c.loop-fact.invariant.1 (SoFar-none so) }

@@ -6,6 +6,7 @@ use Rattle.pipeline_balance.specs.Tree.{AddsNode}
 use Rattle.pipeline_balance.proofs.PairLemmas.{IsLeaf-later, IsNegatable-later, AddsNode-negated, AddsNode-positive}
 use Rattle.net_graph.proofs.GrowLemmas.{Grows-data}
 use Rattle.pipeline_balance.proofs.ShallowLemmas.{KeepsShallow-negated, KeepsShallow-passes}
+use Rattle.pipeline_balance.proofs.ShapeLemmas.{KeepsShapes-trans, KeepsShapes-adds}
 use Rattle.pipeline_balance.proofs.adder_tree.root_of.Goals as goal
 
 pub overflow_add-width : goal.overflow_add-width
@@ -43,3 +44,9 @@ returns-in_ok-root-clause-shallow c =
 
 pub returns-else-term-clause-shallow : goal.returns-else-term-clause-shallow
 returns-else-term-clause-shallow c = KeepsShallow-passes c.in_ok-held.ensures.plain
+
+pub returns-in_ok-root-clause-linear : goal.returns-in_ok-root-clause-linear
+returns-in_ok-root-clause-linear c = KeepsShapes-trans c.in_ok-held.ensures.plain.linear (KeepsShapes-trans (KeepsShapes-adds c.in_ok-zero.ensures.ok tt) (KeepsShapes-adds c.in_ok-root.ensures.ok tt))
+
+pub returns-else-term-clause-linear : goal.returns-else-term-clause-linear
+returns-else-term-clause-linear c = c.in_ok-held.ensures.plain.linear

@@ -87,7 +87,7 @@ returns-clause-ok c =
     let some : 1 ≤ length c.args.leaves.now = let ne = eqb-false _ _ (sym c.if-is_empty.ensures) in omega arith in
     let one : length c.loop-level.terms.items ≡ 1 = one_term _ _ _ _ _ _ _ p c.requires.deep some in
     let is : slice_get c.loop-level.terms.items 0 ≡ Some c.index.result.now = slice_get_read c.loop-level.terms.items 1 0 c.index.result.now (sym one) (omega arith) c.index.ensures in
-    IsTree-root _ _ _ _ _ _ _ p c.requires.deep some _ c.index.result.now c.in_ok-root-2.root is c.in_ok-root-2.ensures.ok c.in_ok-root-2.ensures.shallow
+    IsTree-root _ _ _ _ _ _ _ p c.requires.deep some _ c.index.result.now c.in_ok-root-2.root is c.in_ok-root-2.ensures.ok c.in_ok-root-2.ensures.shallow c.in_ok-root-2.ensures.linear
 
 pub returns-clause-extends : goal.returns-clause-extends
 returns-clause-extends c =

@@ -5,6 +5,7 @@ use Rattle.pipeline_balance.specs.Gate.{IsCounter}
 use Rattle.pipeline_balance.specs.Phase.{IsTickOfPhase}
 use Rattle.pipeline_balance.proofs.TakenLemmas.{IsBitOf-later}
 use Rattle.pipeline_balance.proofs.CostLemmas.{SameAdders-trans, SameNamed-trans}
+use Rattle.pipeline_balance.proofs.ShapeLemmas.{KeepsShapes-trans}
 use Rattle.pipeline_balance.proofs.PhaseLemmas.{IsIndexOf-later, IsPhases-none, IsPhases-push, counter_control, names_of_control}
 use Rattle.pipeline_balance.proofs.phase.phase_bits.Goals as goal
 
@@ -24,7 +25,7 @@ loop-phase-init c =
     let numbers = c.in_ok-index.ensures.ok _ _ c.requires.positive ticks.bit_of in (
       rw c.new-bits.ensures.items (omega arith),
       Extends-refl _,
-      rw c.new-bits.ensures.items (IsPhases-none c.args.period c.args.first c.args.count (Grows-trans ticks.grows numbers.grows) (names_of_control ticks.names numbers.names) (SameAdders-trans ticks.adders numbers.adders) (SameNamed-trans ticks.named numbers.named)),
+      rw c.new-bits.ensures.items (IsPhases-none c.args.period c.args.first c.args.count (Grows-trans ticks.grows numbers.grows) (names_of_control ticks.names numbers.names) (SameAdders-trans ticks.adders numbers.adders) (SameNamed-trans ticks.named numbers.named) (KeepsShapes-trans ticks.linear numbers.linear)),
     )
 
 pub phase_bit-requires-clause-control : goal.phase_bit-requires-clause-control

@@ -32,3 +32,6 @@ returns-clause-ok c =
     let selected = subst (λ (bits : List Node). IsSelection c.phases.new.net c.select.new.net bits c.in_ok-shown.shown.items (length c.in_ok-shown.shown.items) c.widest-width.result c.in_ok-to.to) c.as_slice-2.ensures.value
     (subst (λ (nodes : List Node). IsSelection c.phases.new.net c.select.new.net c.as_slice-2.result.now nodes (length nodes) c.widest-width.result c.in_ok-to.to) c.as_slice-3.ensures.value c.in_ok-to.ensures.ok) in
     AddsShown-select c.args.roots.now c.args.rates.up c.args.rates.down c.args.period c.args.first c.round_of-count.result c.requires.positive c.round_of-count.ensures c.in_ok-shown.ensures c.in_ok-bits.ensures.ok selected
+
+pub select-requires-clause-has_bits : goal.select-requires-clause-has_bits
+select-requires-clause-has_bits c phase bit is = (c.in_ok-bits.ensures.ok.each phase bit (subst (λ (bits : List Node). slice_get bits phase ≡ Some bit) c.as_slice-2.ensures.value is)).within

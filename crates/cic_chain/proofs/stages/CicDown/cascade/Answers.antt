@@ -19,7 +19,7 @@ returns-clause-stream g c =
     let is : c.in_ok-weights.weights.items ≡ moving_sums g.row.N (factor * g.row.D) = c.in_ok-weights.ensures in
     let kept : Class = record { modulus = factor; residue = 0 } in
     let range = subst (λ (form : List ℤ). IsRange (g.R.Ranges.streams c.args.ranges.now) form kept c.range-range.result) is c.range-range.ensures in
-    record { realises = λ emitted same. Realises-down (g.R.Ranges.streams c.args.ranges.now) factor g.row.N g.row.D emitted same (g.met.R.Ranges.causal c.args.ranges.now) c.args.self.now.some c.requires.within range c.width_of-width.ensures c.in_ok-stream.ensures.ok }
+    record { realises = λ emitted same. Realises-down (g.R.Ranges.streams c.args.ranges.now) factor g.row.N g.row.D emitted same (g.met.R.Ranges.causal c.args.ranges.now) c.args.self.now.some c.requires.group c.requires.within range c.width_of-width.ensures c.in_ok-stream.ensures.ok }
 
 pub returns-clause-registers : goal.returns-clause-registers
 returns-clause-registers g c =

@@ -17,7 +17,7 @@ returns-clause-stream g c =
     let factor = c.args.self.now.factor in
     let is : c.as_slice.result.now ≡ moving_sums g.row.N (factor * g.row.D) = c.as_slice.ensures.value ∙ c.in_ok-weights.ensures in
     let range = subst (λ (form : List ℤ). IsPhaseRange (g.R.Ranges.streams c.args.ranges.now) form factor factor c.in_ok-range.range) is c.in_ok-range.ensures in
-    record { realises = λ emitted same. Realises-up (g.R.Ranges.streams c.args.ranges.now) factor g.row.N g.row.D emitted same (g.met.R.Ranges.causal c.args.ranges.now) c.args.self.now.some c.args.self.now.factor_low c.requires.within range c.width_of-width.ensures c.in_ok-stream.ensures.ok }
+    record { realises = λ emitted same. Realises-up (g.R.Ranges.streams c.args.ranges.now) factor g.row.N g.row.D emitted same (g.met.R.Ranges.causal c.args.ranges.now) c.args.self.now.some c.args.self.now.factor_low c.requires.group c.requires.within range c.width_of-width.ensures c.in_ok-stream.ensures.ok }
 
 pub returns-clause-registers : goal.returns-clause-registers
 returns-clause-registers g c =
