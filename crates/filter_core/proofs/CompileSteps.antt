@@ -3,7 +3,7 @@ use Rattle.std.proofs.Common.{◌≡◌, ℕ, ◌+◌, ℤ, List, [], ◌∷◌,
 use Rattle.std.specs.FinMap.{insert}
 use Rattle.filter_text.specs.Written.{TellCosts, IsChainModule, IsTextWritten}
 use Rattle.filter_text.specs.declared.chain.ChainModule.{ChainModule}
-use Rattle.filter_report.specs.Extremes.{told_at}
+use Rattle.filter_text.specs.Extremes.{told_at}
 use Rattle.filter_report.specs.Report.{plan_lines, group_line, group_lines, register_line, register_lines, report_text, TellsOutput}
 use Rattle.filter_text.proofs.CountedText.{same_counts}
 use Rattle.filter_text.proofs.ReadModules.{same_output}
@@ -61,7 +61,7 @@ same_report facts gs d e same extremes =
 
 -- these lines are the report, whatever the groups are of which the costs are told
 pub record IsReportOf (facts : Facts) (chain : ChainModule) (lines : List ℕ) : Type 0 where
-  pub told : (gs : List Group) → TellCosts 1 gs chain.costs.items (design_view chain.design) → TellsOutput chain.output (design_view chain.design) → lines ≡ report_text facts gs (design_view chain.design) (told_at [])
+  pub told : (gs : List Group) → TellCosts 1 gs chain.costs.items (design_view chain.design) → TellsOutput chain.output (design_view chain.design) → lines ≡ report_text facts gs (design_view chain.design) (told_at chain.extremes.items)
 
 -- a text and a report of a plan that is built
 pub outputs_of : (plan : List ℕ) (files : Files) (text lines : List ℕ) (accepted : AcceptedPlan) → IsAcceptedFile plan files accepted.plan → IsAcceptedPlan accepted → are_built accepted.plan.elements ≡ true
@@ -72,7 +72,10 @@ outputs_of plan files text lines accepted file_is is_plan built chain is_chain w
   facts = accepted.facts;
   are_facts = is_plan.are_facts;
   shows = record { design = written.design; reads = written.reads; only = written.only; is_module = is_chain.is_module written.design written.same };
-  lines = reported.told (groups accepted.plan.elements) is_chain.costs (is_chain.output written.design written.same ∙ same_output written.design (design_view chain.design) written.same) ∙ sym (same_report accepted.facts (groups accepted.plan.elements) written.design (design_view chain.design) written.same (told_at []));
+  extremes = told_at chain.extremes.items;
+  tells = is_chain.extremes written.design written.same;
+  lines = reported.told (groups accepted.plan.elements) is_chain.costs (is_chain.output written.design written.same ∙ same_output written.design (design_view chain.design) written.same)
+      ∙ sym (same_report accepted.facts (groups accepted.plan.elements) written.design (design_view chain.design) written.same (told_at chain.extremes.items));
   bounded = bounded_by (size accepted.plan.width) (size accepted.plan.ticks) accepted.plan.elements accepted.facts ((passes_of accepted.plan is_plan.passes).limits.elements) is_plan.are_facts;
 }
 

@@ -1,5 +1,5 @@
 -- What `compile` writes, and what its answers mean.
-use Rattle.std.specs.Prelude.{◌≡◌, ◌⊎◌, ℕ, ◌≤◌, ◌^◌, ℤ, pos, ◌*ℤ◌, ◌-ℤ◌, unsigned_abs, List, [], true, false, Result, Ok, Err}
+use Rattle.std.specs.Prelude.{◌≡◌, ◌⊎◌, ℕ, Option, ◌≤◌, ◌^◌, ℤ, pos, ◌*ℤ◌, ◌-ℤ◌, unsigned_abs, List, [], true, false, Result, Ok, Err}
 use Rattle.std.specs.FinMap.{insert}
 use Rattle.mr_values.specs.Files.{Files}
 use Rattle.mr_values.specs.Host.{HostState}
@@ -15,9 +15,9 @@ use Rattle.plan_check.specs.declared.facts.Facts.{Facts}
 use Rattle.plan_check.specs.Accepted.{AreFacts}
 use Rattle.chain_build.specs.Built.{are_built}
 use Rattle.plan_laws.specs.Laws.{plain}
+use Rattle.filter_text.specs.Extremes.{TellsExtremes}
 use Rattle.filter_text.specs.Headline.{IsTextOf}
 use Rattle.filter_core.specs.PlanFile.{IsAcceptedFile, IsRefusedPlan, AreReadToEnd}
-use Rattle.filter_report.specs.Extremes.{told_at}
 use Rattle.filter_report.specs.Report.{report_text}
 use Rattle.filter_core.specs.WholeFiles.{IsEmptied, HoldsFront, HoldsPart}
 
@@ -39,13 +39,16 @@ IsBounded elements facts = (xs : List ℤ) (n : ℤ) → unsigned_abs (pos (2 ^ 
 
 -- What TEXT and REPORT are to hold: a text that reads as a module which shows the plan's chain, at its latency and period, and the
 -- lines of the report, which tell these and the bound, the cost of each group in that module, and its registers: 2 ^ shift times a value
--- is at most the bound away from the value of the chain without its roundings.
+-- is at most the bound away from the value of the chain without its roundings. Of each linear register for which one bit is too few, and
+-- of no other, the report tells a tick and a value to which some samples drive it then, and which needs all of its bits.
 pub record AreOutputs (plan : List ℕ) (files : Files) (text report : List ℕ) : Type 0 where
   pub built : IsBuiltFile plan files
   pub facts : Facts
   pub are_facts : AreFacts (size built.plan.width) (size built.plan.ticks) built.plan.elements facts
   pub shows : IsTextOf built.plan.elements (size built.plan.width) (size built.plan.ticks) facts.latency facts.period text
-  pub lines : report ≡ report_text facts (groups built.plan.elements) shows.design (told_at [])
+  pub extremes : ℕ → Option (ℕ × ℤ)
+  pub tells : TellsExtremes built.plan.elements (size built.plan.width) (size built.plan.ticks) shows.design extremes
+  pub lines : report ≡ report_text facts (groups built.plan.elements) shows.design extremes
   pub bounded : IsBounded built.plan.elements facts
 
 -- TEXT and REPORT hold these bytes, and no other file has changed

@@ -33,7 +33,7 @@ pub fn compile<H: Host>(
     }
     let module = chain_module(alloc, &accepted.plan, &accepted.facts)?;
     let bytes = chain_text(alloc, &module)?;
-    let lines = report_text(alloc, &accepted.facts, &module, &[])?;
+    let lines = report_text(alloc, &accepted.facts, &module)?;
     match write_file(host, text, &bytes) {
         Ok(()) => write_file(host, report, &lines),
         Err(fault) => Err(fault),

@@ -1,17 +1,11 @@
 // What is told of the registers' widths.
 ghost use Rattle.std.specs.Prelude.{◌≡◌, ◌++◌, Some, OnOk};
-ghost use Rattle.filter_report.specs.Extremes.{pair_of, told_at};
+ghost use Rattle.filter_text.specs.Extremes.{pair_of, told_at};
 ghost use Rattle.filter_report.specs.Report.{extreme_words};
 
 use crate::report::{put_number, put_value};
+use filter_text::ExtremeAt;
 use std::alloc::AllocError;
-
-/// A value of a register that needs all of its bits, and the tick at which some samples drive it there.
-#[derive(Clone, Copy, Debug)]
-pub struct ExtremeAt {
-    pub tick: u64,
-    pub value: i128,
-}
 
 /// What is told at the number of a name; past the end nothing.
 pub(crate) fn extreme_at(extremes: &[Option<ExtremeAt>], name: usize) -> Option<ExtremeAt>
@@ -29,7 +23,7 @@ pub(crate) fn put_extreme(text: &mut Vec<u8>, extreme: Option<ExtremeAt>) -> Res
 {
     match extreme {
         Some(extreme) => {
-            put_number(text, " tick ", u128::from(extreme.tick))?;
+            put_number(text, " tick ", extreme.tick)?;
             put_value(text, " value ", extreme.value)
         }
         None => Ok(()),

@@ -6,5 +6,4 @@ mod groups;
 mod registers;
 mod report;
 
-pub use extremes::ExtremeAt;
 pub use report::report_text;

@@ -2,11 +2,12 @@
 ghost use Rattle.std.specs.Prelude.{◌≡◌, ◌++◌, OnOk};
 ghost use Rattle.verilog_tree.specs.Names.{text_of};
 ghost use Rattle.verilog_tree.specs.View.{design_view};
-ghost use Rattle.filter_report.specs.Extremes.{told_at};
+ghost use Rattle.filter_text.specs.Extremes.{told_at};
 ghost use Rattle.filter_report.specs.Report.{register_line, register_lines};
 
-use crate::extremes::{ExtremeAt, extreme_at, put_extreme};
+use crate::extremes::{extreme_at, put_extreme};
 use crate::report::put_number;
+use filter_text::ExtremeAt;
 use std::alloc::AllocError;
 use verilog_tree::{Kind, Module, Signal};
 

@@ -4,10 +4,9 @@ ghost use Rattle.std.specs.Fmt.{signed_decimal};
 ghost use Rattle.mr_values.specs.Timing.{Group};
 ghost use Rattle.verilog_tree.specs.View.{design_view};
 ghost use Rattle.filter_text.specs.Written.{TellCosts};
-ghost use Rattle.filter_report.specs.Extremes.{told_at};
+ghost use Rattle.filter_text.specs.Extremes.{told_at};
 ghost use Rattle.filter_report.specs.Report.{plan_lines, report_text, TellsOutput};
 
-use crate::extremes::ExtremeAt;
 use crate::groups::put_groups;
 use crate::registers::put_registers;
 use filter_text::ChainModule;
@@ -50,18 +49,13 @@ fn plan_lines(alloc: Global, facts: &Facts, output: u8) -> Result<Vec<u8>, Alloc
 }
 
 /// The report: latency and period in ticks, the bound, the shift, and the bits of the output; the form and the cost of each group; and
-/// the bits of each register, in the order of the text, with the tick and the value that `extremes` tells at the number of its name.
+/// the bits of each register, in the order of the text, with the tick and the value that are told at the number of its name.
 /// Fails only for want of memory.
-pub fn report_text(
-    alloc: Global,
-    facts: &Facts,
-    chain: &ChainModule,
-    extremes: &[Option<ExtremeAt>],
-) -> Result<Vec<u8>, AllocError>
-    ensures { IfOk result (λ text. (gs : List Group) → TellCosts 1 gs chain.now.costs.items (design_view chain.now.design) → TellsOutput chain.now.output (design_view chain.now.design) → text.items ≡ report_text facts.now gs (design_view chain.now.design) (told_at extremes.now)) }
+pub fn report_text(alloc: Global, facts: &Facts, chain: &ChainModule) -> Result<Vec<u8>, AllocError>
+    ensures { IfOk result (λ text. (gs : List Group) → TellCosts 1 gs chain.now.costs.items (design_view chain.now.design) → TellsOutput chain.now.output (design_view chain.now.design) → text.items ≡ report_text facts.now gs (design_view chain.now.design) (told_at chain.now.extremes.items)) }
 {
     let mut text = plan_lines(alloc, facts, chain.output)?;
     put_groups(&mut text, &chain.costs)?;
-    put_registers(&mut text, &chain.design, extremes)?;
+    put_registers(&mut text, &chain.design, &chain.extremes)?;
     Ok(text)
 }

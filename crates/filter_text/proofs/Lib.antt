@@ -18,3 +18,5 @@ pub mod SumExtreme
 pub mod LeastText
 pub mod ChainRegisters
 pub mod TellExtremes
+pub mod ByNumber
+pub mod TellNumbers

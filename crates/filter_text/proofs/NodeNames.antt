@@ -33,7 +33,7 @@ name_at [] n text at = absurd (cc)
 name_at (name ∷ names) zero text at = cc
 name_at (name ∷ names) (suc n) text at = name_at names n text at
 
-name_there : (cells : List Cell) (place : ℕ) (cell : Cell) → slice_get cells place ≡ Some cell → is_input cell.item ≡ false → slice_get (written_module cells).names (number_of cells place) ≡ Some (node_text cell place)
+pub name_there : (cells : List Cell) (place : ℕ) (cell : Cell) → slice_get cells place ≡ Some cell → is_input cell.item ≡ false → slice_get (written_module cells).names (number_of cells place) ≡ Some (node_text cell place)
 name_there cells place cell at data_node =
     let there = text_at cells 7 0 place cell at data_node in
     past_head (node_texts cells 0) (number_of cells place) there.0 there.1 ∙ there.2

@@ -62,7 +62,7 @@ module _ {width ticks : ℕ} {elements : List Element} {cells : List Cell} {out_
     registered : is_register its.register.cell.item ≡ true
     registered = ap is_register its.register.registered.1
 
-    numbered : texts.number_of (written_module cells) (written_name r.name) ≡ number_of cells its.node.place
+    pub numbered : texts.number_of (written_module cells) (written_name r.name) ≡ number_of cells its.node.place
     numbered =
         ap (texts.number_of (written_module cells)) (sym (register_text cells net.netlist its.node.place its.register.cell r.name its.register.there registered its.register.named))
         ∙ text_number cells net.netlist small its.node.place its.register.cell its.register.there (register_data its.register.cell.item registered)

@@ -47,14 +47,6 @@ number_is d apart n c rest is =
 no_none : (tick : ℕ) (value : ℤ) (o : Option (ℕ × ℤ)) → o ≡ Some (tick, value) → o ≡ None → ⊥
 no_none tick value o some none = cc
 
-same_pair : (p q : ℕ × ℤ) (o : Option (ℕ × ℤ)) → o ≡ Some p → o ≡ Some q → p ≡ q
-same_pair p q o first second = cc
-
-one_pair : (t u : ℕ) (v w : ℤ) (o : Option (ℕ × ℤ)) → o ≡ Some (t, v) → o ≡ Some (u, w) → (t ≡ u) × (v ≡ w)
-one_pair t u v w o first second =
-    let one = same_pair (t, v) (u, w) o first second in
-    (ap (λ (p : ℕ × ℤ). p.0) one, ap (λ (p : ℕ × ℤ). p.1) one)
-
 module _ {width ticks : ℕ} {elements : List Element} {cells : List Cell} (some : 1 ≤ ticks) (netlist : IsNetlist cells) (small : AreSmall cells) (has : net_registers.HasLinearRegisters width ticks elements cells)
     (d : Design) (same : IsSameButPlaces d (written_module cells)) (registers : HasLinearRegisters elements width ticks d) (extremes : ℕ → Option (ℕ × ℤ)) (tells : TellsEach elements width ticks d extremes) where
   apart : AreDistinct d.names
@@ -76,13 +68,9 @@ module _ {width ticks : ℕ} {elements : List Element} {cells : List Cell} (some
   told : (n tick : ℕ) (value : ℤ) → extremes n ≡ Some (tick, value) → IsReachedIn width ticks d (text_of d n) tick value × IsWideIn (linear width ticks elements) (text_of d n)
   told n tick value is =
       let one = tells.only n tick value is in
-      let its = tells.each one.place one.r one.sum one.there one.needed in
-      let text : written_name one.r.name ≡ text_of d n = sym (registers.each one.place one.r one.there).named ∙ ap (text_of d) one.own in
-      let pair = one_pair its.0 tick its.1 value (extremes n) (ap extremes (sym one.own) ∙ its.2) is in (
+      let text : written_name one.r.name ≡ text_of d n = sym (registers.each one.place one.r one.there).named ∙ ap (text_of d) one.own in (
         subst (λ (name : List ℕ). IsReachedIn width ticks d name tick value) text
-            (subst (IsReachedIn width ticks d (written_name one.r.name) tick) pair.1
-            (subst (λ (t : ℕ). IsReachedIn width ticks d (written_name one.r.name) t its.1) pair.0
-            (record { xs = its.3.xs; extreme = sum_extreme some d one.r one.sum its.3.xs its.0 its.1 (registers.each one.place one.r one.there) one.needed its.3.input }))),
+            (record { xs = one.reached.xs; extreme = sum_extreme some d one.r one.sum one.reached.xs tick value (registers.each one.place one.r one.there) one.needed one.reached.input }),
         record { place = one.place; r = one.r; there = one.there; named = text; sum = one.sum; needed = one.needed },
       )
 

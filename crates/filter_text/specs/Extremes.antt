@@ -1,12 +1,14 @@
 -- What is told of the widths of registers: a tick, and a value there that needs all bits.
-use Rattle.std.specs.Prelude.{◌≡◌, ℕ, ℤ, List, Option, None, Some, slice_get}
+use Rattle.std.specs.Prelude.{◌≡◌, ℕ, ◌+◌, ℤ, List, Option, None, Some, slice_get}
 use Rattle.mr_values.specs.declared.plan.Element.{Element}
 use Rattle.net_graph.specs.Name.{written_name}
 use Rattle.stage_law.specs.Registers.{HeldSum}
 use Rattle.verilog_tree.specs.Names.{text_of}
 use Rattle.verilog_tree.specs.Tree.{Design}
+use Rattle.chain_build.specs.declared.extremes.RegisterExtreme.{RegisterExtreme}
 use Rattle.chain_build.specs.Extremes.{IsReached}
 use Rattle.chain_build.specs.Linear.{LinearRegister, linear}
+use Rattle.filter_text.specs.declared.extremes.ExtremeAt.{ExtremeAt}
 use Rattle.filter_text.specs.Registers.{register_number, IsReachedIn}
 
 -- a list has a register whose name has this text, and for which one bit is too few
@@ -24,19 +26,44 @@ pub record TellsExtremes (elements : List Element) (width ticks : ℕ) (d : Desi
   pub told : (name tick : ℕ) (value : ℤ) → extremes name ≡ Some (tick, value) → IsReachedIn width ticks d (text_of d name) tick value × IsWideIn (linear width ticks elements) (text_of d name)
   pub untold : (name : ℕ) → extremes name ≡ None → IsWideIn (linear width ticks elements) (text_of d name) → ⊥
 
+-- ---- in a list
+
+abbrev pub pair_of : Option (Option ExtremeAt) → Option (ℕ × ℤ)
+pair_of None = None
+pair_of (Some None) = None
+pair_of (Some (Some e)) = Some (e.tick, e.value)
+
+-- what a list tells at a number; past its end nothing
+abbrev pub told_at : List (Option ExtremeAt) → ℕ → Option (ℕ × ℤ)
+told_at extremes name = pair_of (slice_get extremes name)
+
+-- what stands at a number is told of a register whose name has this number
+pub record IsToldOf (told : List RegisterExtreme) (number : ℕ) (extreme : ExtremeAt) : Type 0 where
+  pub j : ℕ
+  pub t : RegisterExtreme
+  pub there : slice_get told j ≡ Some t
+  pub own : t.register.place + 6 ≡ number
+  pub same_tick : t.tick ≡ extreme.tick
+  pub same_value : t.value ≡ extreme.value
+
+-- a list has what is told of each register, at the number of its name, and nothing else
+pub record TellsByNumber (told : List RegisterExtreme) (extremes : List (Option ExtremeAt)) : Type 0 where
+  pub each : (j : ℕ) (t : RegisterExtreme) → slice_get told j ≡ Some t → (e : ExtremeAt) × (slice_get extremes (t.register.place + 6) ≡ Some (Some e))
+  pub only : (number : ℕ) (e : ExtremeAt) → slice_get extremes number ≡ Some (Some e) → IsToldOf told number e
+
 -- ---- register by register
 
--- the number is that of the name of a register for which one bit is too few
-pub record IsWideAt (registers : List LinearRegister) (d : Design) (name : ℕ) : Type 0 where
+-- the number is that of the name of a register for which one bit is too few, and some samples drive it to this value at this tick
+pub record IsWideAt (elements : List Element) (width ticks : ℕ) (d : Design) (name tick : ℕ) (value : ℤ) : Type 0 where
   pub place : ℕ
   pub r : LinearRegister
-  pub there : slice_get registers place ≡ Some r
+  pub there : slice_get (linear width ticks elements) place ≡ Some r
   pub sum : HeldSum
   pub needed : r.needed ≡ Some sum
   pub own : register_number d r ≡ name
+  pub reached : IsReached width ticks r sum tick value
 
 -- what some samples reach is told of each such register of the plan, and nothing else
 pub record TellsEach (elements : List Element) (width ticks : ℕ) (d : Design) (extremes : ℕ → Option (ℕ × ℤ)) : Type 0 where
-  pub each : (i : ℕ) (r : LinearRegister) (s : HeldSum) → slice_get (linear width ticks elements) i ≡ Some r → r.needed ≡ Some s
-      → (tick : ℕ) × (value : ℤ) × (extremes (register_number d r) ≡ Some (tick, value)) × IsReached width ticks r s tick value
-  pub only : (name tick : ℕ) (value : ℤ) → extremes name ≡ Some (tick, value) → IsWideAt (linear width ticks elements) d name
+  pub each : (i : ℕ) (r : LinearRegister) (s : HeldSum) → slice_get (linear width ticks elements) i ≡ Some r → r.needed ≡ Some s → (tick : ℕ) × (value : ℤ) × (extremes (register_number d r) ≡ Some (tick, value))
+  pub only : (name tick : ℕ) (value : ℤ) → extremes name ≡ Some (tick, value) → IsWideAt elements width ticks d name tick value

@@ -1,8 +1,7 @@
 -- What the text of a plan has to show: each value of the chain at its tick, and nothing at any other tick.
 use Rattle.std.specs.Prelude.{◌≡◌, ℕ, zero, suc, ◌+◌, ◌-◌, ◌*◌, true, List, [], ◌∷◌, ◌++◌, length, map, take, drop, codes, Some, slice_get, ℤ, pos}
-use Rattle.mr_values.specs.Width.{signed, IsLeastWidth}
+use Rattle.mr_values.specs.Width.{IsLeastWidth}
 use Rattle.mr_values.specs.Timing.{Group, ceil_div, groups}
-use Rattle.mr_values.specs.Sequence.{phase}
 use Rattle.mr_values.specs.Value.{val}
 use Rattle.mr_values.specs.declared.plan.Element.{Element}
 use Rattle.verilog_tree.specs.Checks.{Passes}
@@ -11,13 +10,13 @@ use Rattle.verilog_tree.specs.Meaning.{Values}
 use Rattle.module_laws.specs.Running.{HasRuns}
 use Rattle.uncut_runs.specs.Exists.{HasOneUncutRun}
 use Rattle.verilog_tree.specs.Names.{shapes_of, number_of}
-use Rattle.verilog_tree.specs.Shown.{Cycle, Event, RunsOver, EachFits, ports_of, events_of}
+use Rattle.verilog_tree.specs.Shown.{Cycle, Event, ports_of, events_of}
 use Rattle.verilog_tree.specs.Tree.{Design}
 use Rattle.verilog_tree.specs.Uncut.{Numbers, IsUncutRun, number_at}
 use Rattle.verilog_text.specs.Reading.{Reads}
-use Rattle.net_module.specs.Steps.{HasNoReset, tick_data, ticks_in, pair_of}
+use Rattle.net_module.specs.Steps.{ticks_in, pair_of}
 use Rattle.filter_text.specs.Runs.{samples_in, IsRunFrom}
-use Rattle.filter_text.specs.Registers.{HasLinearRegisters}
+use Rattle.filter_text.specs.Registers.{HasLinearRegisters, AreLeastRegisters}
 use Rattle.chain_build.specs.Added.{HasFacts}
 use Rattle.chain_build.specs.Built.{ArePlainGroups, kind_of}
 use Rattle.chain_build.specs.Linear.{output_range}
@@ -86,9 +85,9 @@ HaveShapes number [] d = Unit {0}
 HaveShapes number (g ∷ gs) d = (has_linear_shape (kind_of g) ≡ true → HasLinearShapes d number) × HaveShapes (number + 1) gs d
 
 -- The module passes every check, from any content it runs over any cycles, cut and uncut, its output has the least width for the range
--- of the chain's values, and it shows the chain. Its linear registers are those of the plan, none of them ever cut after a reset. Its
--- groups cost what they cost as stages, with at most one adder between two registers, and their statements have the shapes of their forms;
--- where no group rounds, its output register is never cut.
+-- of the chain's values, and it shows the chain. Its linear registers are those of the plan, none of them ever cut after a reset and each
+-- of the least width. Its groups cost what they cost as stages, with at most one adder between two registers, and their statements have
+-- the shapes of their forms; where no group rounds, its output register is never cut.
 pub record IsModuleOf (elements : List Element) (width ticks latency period : ℕ) (design : Design) : Type 0 where
   pub passes : Passes design
   pub runs : HasRuns design
@@ -97,6 +96,7 @@ pub record IsModuleOf (elements : List Element) (width ticks latency period : �
   pub shows : ShowsChain elements width ticks latency period design
   pub uncut : ArePlainGroups (groups elements) → KeepsOutput elements width ticks latency period design
   pub registers : HasLinearRegisters elements width ticks design
+  pub least : AreLeastRegisters elements width ticks design
   pub costs : AreCounted 1 (groups elements) design
   pub shapes : HaveShapes 1 (groups elements) design
 

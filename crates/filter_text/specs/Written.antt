@@ -14,6 +14,7 @@ use Rattle.verilog_text.specs.Reading.{Reads}
 use Rattle.verilog_text.specs.Shortest.{IsWritable}
 use Rattle.chain_build.specs.Built.{kind_of}
 use Rattle.chain_build.specs.declared.groups.GroupCost.{GroupCost}
+use Rattle.filter_text.specs.Extremes.{told_at, TellsExtremes}
 use Rattle.filter_text.specs.Headline.{IsModuleOf}
 use Rattle.filter_text.specs.declared.chain.ChainModule.{ChainModule}
 
@@ -37,11 +38,12 @@ TellCosts number [] (c ∷ costs) d = ⊥
 TellCosts number (g ∷ gs) [] d = ⊥
 TellCosts number (g ∷ gs) (c ∷ costs) d = (c.kind ≡ kind_of g) × TellsCost c.cost (counted d number) × TellCosts (number + 1) gs costs d
 
--- the module is that of the chain, wherever its declarations stand, and is written in order; so many bits has its output, and these are the
--- costs of its groups
+-- the module is that of the chain, wherever its declarations stand, and is written in order; so many bits has its output, these are the
+-- costs of its groups, and this is told of its registers
 pub record IsChainModule (elements : List Element) (width ticks latency period : ℕ) (chain : ChainModule) : Type 0 where
   pub is_module : (d : Design) → IsSameButPlaces d (design_view chain.design) → IsModuleOf elements width ticks latency period d
   pub writable : IsWritable limits (design_view chain.design)
   pub in_order : IsInOrder (design_view chain.design)
   pub output : (d : Design) → IsSameButPlaces d (design_view chain.design) → chain.output ≡ (shapes_of d).width (ports_of d).out_data
   pub costs : TellCosts 1 (groups elements) chain.costs.items (design_view chain.design)
+  pub extremes : (d : Design) → IsSameButPlaces d (design_view chain.design) → TellsExtremes elements width ticks d (told_at chain.extremes.items)

@@ -9,6 +9,7 @@ ghost use Rattle.verilog_text.specs.Shortest.{IsWritable};
 ghost use Rattle.verilog_text.specs.Order.{IsInOrder};
 ghost use Rattle.filter_text.specs.Written.{IsChainModule, IsTextWritten};
 
+use crate::extremes::{ExtremeAt, by_number};
 use crate::small::nets_are_small;
 use chain_build::{GroupCost, build};
 use mr_values::{Memory, Plan};
@@ -18,12 +19,14 @@ use std::alloc::Global;
 use verilog_tree::Module;
 use verilog_write::text_of;
 
-/// The module of a plan, the bits of its output, and what each of its groups costs.
+/// The module of a plan, the bits of its output, what each of its groups costs, and at the number of the name of each linear register
+/// for which one bit is too few a value that needs all of its bits.
 #[derive(Drop)]
 pub struct ChainModule {
     pub design: Module,
     pub output: u8,
     pub costs: Vec<GroupCost>,
+    pub extremes: Vec<Option<ExtremeAt>>,
 }
 
 /// The module of an accepted plan, of which these are the facts: what it shows stands at the ticks latency + n * period. Fails only
@@ -37,10 +40,12 @@ pub fn chain_module(alloc: Global, plan: &Plan, facts: &Facts) -> Result<ChainMo
     let built = build(alloc, plan, facts)?;
     nets_are_small(&built.net);
     let design = module_of(alloc, &built.net)?;
+    let extremes = by_number(alloc, design.names.len(), &built.extremes)?;
     Ok(ChainModule {
         design,
         output: built.net.width(built.out_q),
         costs: built.costs,
+        extremes,
     })
 }
 

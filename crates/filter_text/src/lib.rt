@@ -2,6 +2,8 @@
 #![tactic(auto)]
 
 mod chain;
+mod extremes;
 mod small;
 
 pub use chain::{ChainModule, chain_module, chain_text};
+pub use extremes::ExtremeAt;

@@ -1,5 +1,5 @@
 -- Places change no shape.
-use Rattle.std.proofs.Common.{◌≡◌, ℕ, Bool, true, ◌&&◌, List, Some, slice_get, refl, sym, ◌∙◌, ap, subst}
+use Rattle.std.proofs.Common.{◌≡◌, ℕ, ◌&&◌, List, Some, slice_get, refl, sym, ◌∙◌, ap, subst}
 use Rattle.verilog_tree.specs.Tree.{Tree, Name, Bit, Part, Plain, Based, Cat, Not, Binary, Shift, Choice, Action, Actions, Block, When, Either, Give, no_action, action, Assignment, Design}
 use Rattle.verilog_tree.specs.Counted.{in_group, is_linear, is_linear_op, is_linear_shift, is_control_name}
 use Rattle.verilog_tree.specs.Names.{text_of, is_control, is_in_group}

@@ -1,9 +1,8 @@
 -- The statements of a written module that drive the names of a linear group have no other operators than its nodes.
-use Rattle.std.proofs.Common.{◌≡◌, ℕ, zero, suc, ◌+◌, ◌<◌, ◌≤◌, ◌^◌, Bool, true, false, not, ◌&&◌, cond, List, Option, None, Some, slice_get, refl, sym, ◌∙◌, ap, subst, arith}
+use Rattle.std.proofs.Common.{◌≡◌, ℕ, zero, suc, ◌+◌, ◌<◌, ◌≤◌, ◌^◌, Bool, true, false, not, ◌&&◌, List, Option, None, Some, slice_get, refl, sym, ◌∙◌, ap, subst, arith}
 use Rattle.std.specs.Prelude.{nat_eq, IsSome}
 use Rattle.std.proofs.lemmas.Bool.{eqb-true}
 use Rattle.net_graph.specs.declared.cell.Cell.{Cell}
-use Rattle.net_graph.specs.declared.cell.Node.{Node}
 use Rattle.net_graph.specs.declared.cell.Item.{Item}
 use Rattle.net_graph.specs.declared.cell.Item.TheVariants.{Input, Constant, Add, Sub, Shl, Shr, Mux, Equal, Bits, Register}
 use Rattle.net_graph.specs.declared.name.Name.{Name}
@@ -18,7 +17,7 @@ use Rattle.verilog_tree.specs.Tree.{Name as NameTree, Action, Assignment, Design
 use Rattle.verilog_tree.specs.Names as texts
 use Rattle.verilog_tree.specs.Names.{text_of}
 use Rattle.verilog_tree.specs.Counted.{in_group, is_linear}
-use Rattle.net_module.specs.Written.{is_register, is_wire, is_valid_kind, number_of, nameless, text_for, tree_for, output_place, valid_place, written_module}
+use Rattle.net_module.specs.Written.{is_register, is_wire, number_of, nameless, text_for, tree_for, output_place, valid_place, written_module}
 use Rattle.net_module.proofs.Cycles.{wire_parts, register_is}
 use Rattle.net_module.proofs.Lists.{assignment_of, assign_from}
 use Rattle.net_module.proofs.NodeTexts.{node_text_of}

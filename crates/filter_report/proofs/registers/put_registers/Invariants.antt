@@ -1,6 +1,6 @@
 use Rattle.std.proofs.Common.{◌≡◌, ◌++◌, drop}
 use Rattle.verilog_tree.specs.View.{design_view}
-use Rattle.filter_report.specs.Extremes.{told_at}
+use Rattle.filter_text.specs.Extremes.{told_at}
 use Rattle.filter_report.specs.Report.{register_lines}
 use Rattle.filter_report.proofs.registers.put_registers.Given as goal
 

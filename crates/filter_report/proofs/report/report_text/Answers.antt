@@ -1,9 +1,10 @@
-use Rattle.std.proofs.Common.{◌∙◌, List, ◌++◌, ℕ, ap}
+use Rattle.std.proofs.Common.{◌∙◌, List, ◌++◌, Option, ℕ, ap}
 use Rattle.verilog_tree.specs.Tree.{Design}
 use Rattle.verilog_tree.specs.View.{design_view}
 use Rattle.chain_build.specs.declared.groups.GroupCost.{GroupCost}
 use Rattle.filter_report.specs.Costs.{cost_lines}
-use Rattle.filter_report.specs.Extremes.{told_at}
+use Rattle.filter_text.specs.declared.extremes.ExtremeAt.{ExtremeAt}
+use Rattle.filter_text.specs.Extremes.{told_at}
 use Rattle.filter_report.specs.Report.{plan_lines, group_lines, register_lines}
 use Rattle.filter_report.proofs.Told.{told_lines}
 use Rattle.filter_report.proofs.report.report_text.Goals as goal
@@ -11,9 +12,10 @@ use Rattle.filter_report.proofs.report.report_text.Goals as goal
 pub returns : goal.returns
 returns c = λ gs tells output.
     let d : Design = design_view c.args.chain.now.design in
-    let registers = register_lines d (told_at c.args.extremes.now) d.signals in
+    let registers = register_lines d (told_at c.args.chain.now.extremes.items) d.signals in
     let costs = c.args.chain.now.costs.items in
     c.in_ok-put_registers.ensures
+    ∙ ap (λ (extremes : List (Option ExtremeAt)). c.put_groups.new.text.items ++ register_lines d (told_at extremes) d.signals) c.deref-2.ensures.value
     ∙ ap (λ (text : List ℕ). text ++ registers)
     (c.in_ok-put_groups.ensures ∙ ap (λ (told : List GroupCost). c.in_ok-text.text.items ++ cost_lines 1 told) c.deref.ensures.value
     ∙ ap (λ (text : List ℕ). text ++ cost_lines 1 costs) c.in_ok-text.ensures ∙ ap (λ (lines : List ℕ). plan_lines c.args.facts.now c.args.chain.now.output ++ lines) (told_lines 1 gs costs d tells)

@@ -1,4 +1,4 @@
-use Rattle.std.proofs.Common.{ℕ, subst, sym, ◌∙◌, ap}
+use Rattle.std.proofs.Common.{◌≡◌, ℕ, List, length, slice_get, subst, sym, ◌∙◌, ap, arith}
 use Rattle.std.proofs.lemmas.Option.{slice_get_within}
 use Rattle.mr_values.specs.Value.{size}
 use Rattle.mr_values.specs.Width.{IsLeastWidth}
@@ -9,10 +9,13 @@ use Rattle.verilog_tree.specs.Tree.{Design}
 use Rattle.verilog_text.specs.Grammar.{limits}
 use Rattle.verilog_text.specs.Shortest.{IsWritable}
 use Rattle.verilog_text.specs.Order.{IsInOrder, IsSameButPlaces}
+use Rattle.net_module.specs.Written.{written_module}
 use Rattle.net_module.proofs.Outputs.{shows_as}
 use Rattle.net_text.proofs.Writable.{has_text, in_order}
 use Rattle.uncut_runs.proofs.Exists.{passing_uncut}
 use Rattle.chain_build.specs.Linear.{output_range}
+use Rattle.chain_build.specs.declared.extremes.RegisterExtreme.{RegisterExtreme}
+use Rattle.filter_text.specs.Extremes.{told_at, TellsByNumber}
 use Rattle.filter_text.specs.Headline.{ShowsChain, KeepsOutput}
 use Rattle.filter_text.specs.Written.{TellCosts}
 use Rattle.filter_text.proofs.ChainLimits.{narrow_plan, wide_plan, some_ticks}
@@ -22,12 +25,24 @@ use Rattle.filter_text.proofs.UncutOutput.{keeps_output}
 use Rattle.plan_laws.proofs.Passes.{passes_of}
 use Rattle.filter_text.proofs.CountedText.{chain_counted, chain_costs}
 use Rattle.filter_text.proofs.RegistersText.{registers_text}
+use Rattle.filter_text.proofs.LeastText.{least_text}
 use Rattle.filter_text.proofs.ShapesText.{chain_shaped}
+use Rattle.filter_text.proofs.TellExtremes.{tells_extremes}
+use Rattle.filter_text.proofs.TellNumbers.{has_extremes, told_within, tells_each}
 use Rattle.filter_text.proofs.ReadModules.{passing, running, output_width}
 use Rattle.filter_text.proofs.chain.chain_module.Goals as goal
 
 pub module_of-requires-clause-writable : goal.module_of-requires-clause-writable
 module_of-requires-clause-writable c = chain_writable c.in_ok-built.ensures.chain (narrow_plan c.args.plan.now c.requires.accepted)
+
+pub by_number-requires : goal.by_number-requires
+by_number-requires c = λ j t at.
+    let built = c.in_ok-built.ensures in
+    let cells = c.in_ok-built.built.net in
+    let told = c.in_ok-built.built.extremes.items in
+    let less = told_within built.chain c.nets_are_small.ensures built.registers told built.extremes j t (ap (λ (xs : List RegisterExtreme). slice_get xs j) (sym c.deref.ensures.value) ∙ at) in
+    let names : length c.in_ok-design.design.names.items ≡ length (written_module cells).names = ap (λ (d : Design). length d.names) c.in_ok-design.ensures in
+    omega (arith, less, names, c.len.ensures, c.in_ok-design.design.names.ok)
 
 pub width-requires : goal.width-requires
 width-requires c =
@@ -40,14 +55,20 @@ returns c =
     let es = c.args.plan.now.elements in
     let cells = c.in_ok-built.built.net in
     let net = c.in_ok-built.ensures.chain in
-    let can = chain_writable net (narrow_plan c.args.plan.now c.requires.accepted) in
+    let wide = wide_plan c.args.plan.now c.requires.accepted in
+    let narrow = narrow_plan c.args.plan.now c.requires.accepted in
+    let some = some_ticks c.args.plan.now c.requires.accepted in
+    let can = chain_writable net narrow in
     let few = (passes_of c.args.plan.now c.requires.accepted).limits.few in
     let small = c.nets_are_small.ensures in
     let has = c.in_ok-built.ensures.costs in
+    let linear = c.in_ok-built.ensures.registers in
+    let told = c.in_ok-built.ensures.extremes in
     let is = c.in_ok-design.ensures in
     record {
       is_module = λ d same.
           let as_written = subst (λ (e : Design). IsSameButPlaces d e) is same in
+          let registers = registers_text wide narrow some net small d as_written few linear in
           record {
             passes = passing cells net.netlist can d as_written;
             runs = running cells net.netlist can d as_written;
@@ -55,12 +76,12 @@ returns c =
             output = subst (IsLeastWidth (output_range W T es).lo (output_range W T es).hi) (sym (output_width cells d as_written ∙ output_wide net)) net.least;
             shows = subst (λ (p : ℕ). ShowsChain es W T c.args.facts.now.latency p d) (sym c.requires.are_facts.period_is)
                 (subst (λ (l : ℕ). ShowsChain es W T l (last_stream W T es).period d) (sym c.requires.are_facts.latency_is)
-                (chain_shows (wide_plan c.args.plan.now c.requires.accepted) (some_ticks c.args.plan.now c.requires.accepted) net.positive net (shows_as cells net.netlist can) d as_written));
+                (chain_shows wide some net.positive net (shows_as cells net.netlist can) d as_written));
             uncut = λ plain.
                 subst (λ (p : ℕ). KeepsOutput es W T c.args.facts.now.latency p d) (sym c.requires.are_facts.period_is)
-                (subst (λ (l : ℕ). KeepsOutput es W T l (last_stream W T es).period d) (sym c.requires.are_facts.latency_is)
-                (keeps_output (wide_plan c.args.plan.now c.requires.accepted) (narrow_plan c.args.plan.now c.requires.accepted) (some_ticks c.args.plan.now c.requires.accepted) net d as_written plain));
-            registers = registers_text (wide_plan c.args.plan.now c.requires.accepted) (narrow_plan c.args.plan.now c.requires.accepted) (some_ticks c.args.plan.now c.requires.accepted) net small d as_written few c.in_ok-built.ensures.registers;
+                (subst (λ (l : ℕ). KeepsOutput es W T l (last_stream W T es).period d) (sym c.requires.are_facts.latency_is) (keeps_output wide narrow some net d as_written plain));
+            registers = registers;
+            least = least_text some d registers (has_extremes told);
             costs = chain_counted es c.in_ok-built.built.costs.items cells few net.netlist small has d as_written;
             shapes = chain_shaped es cells few net.netlist small has.no_tables c.in_ok-built.ensures.shapes d as_written;
           };
@@ -70,4 +91,9 @@ returns c =
           let as_written = subst (λ (e : Design). IsSameButPlaces d e) is same in
           c.width.ensures.width ∙ ap (λ (x : Cell). x.width) (cell_at-is cells c.in_ok-built.built.out_q.place net.register.cell net.register.there) ∙ net.register.wide ∙ sym (output_width cells d as_written ∙ output_wide net);
       costs = subst (λ (d : Design). TellCosts 1 (groups es) c.in_ok-built.built.costs.items d) (sym is) (chain_costs es c.in_ok-built.built.costs.items cells few net.netlist small has);
+      extremes = λ d same.
+          let as_written = subst (λ (e : Design). IsSameButPlaces d e) is same in
+          let registers = registers_text wide narrow some net small d as_written few linear in
+          let extremes = c.in_ok-extremes.extremes.items in
+          tells_extremes some net.netlist small linear d as_written registers (told_at extremes) (tells_each net small linear c.in_ok-built.built.extremes.items told d as_written extremes (subst (λ (told : List RegisterExtreme). TellsByNumber told extremes) c.deref.ensures.value c.in_ok-extremes.ensures));
     }
