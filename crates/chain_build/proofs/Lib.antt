@@ -3,6 +3,8 @@ pub mod Spans
 pub mod Grown
 pub mod GroupFacts
 pub mod Prefixes
+pub mod Pace
+pub mod Bits
 pub mod Samples
 pub mod SameStreams
 pub mod RangeLemmas
@@ -16,6 +18,14 @@ pub mod RegisterLemmas
 pub mod RegistersSoFar
 pub mod StepLemmas
 pub mod StepAt
+pub mod PeakLists
+pub mod Kept
+pub mod PeakRoom
+pub mod OutputPeaks
+pub mod BuiltPeaks
+pub mod NamedPeaks
+pub mod PeakPlaces
+pub mod PeaksSoFar
 pub mod OutputLemmas
 pub mod ChainLemmas
 pub mod LinearBuilt

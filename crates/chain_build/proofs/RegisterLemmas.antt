@@ -31,7 +31,7 @@ needing-member range bits (h ∷ sums) s is = by (nat_eq (bits_for (range h.form
     by true e rest = record { place = zero; there = e }
     by false e rest = let m = rest e in record { place = suc m.place; there = m.there }
 
-needed-member : (range : Telling) (sums : List HeldSum) (s : HeldSum) → (b : Bool) → cond b None (needing range (bits_of range sums) sums) ≡ Some s → IsMember sums s
+pub needed-member : (range : Telling) (sums : List HeldSum) (s : HeldSum) → (b : Bool) → cond b None (needing range (bits_of range sums) sums) ≡ Some s → IsMember sums s
 needed-member range sums s true is = absurd (cc)
 needed-member range sums s false is = needing-member range (bits_of range sums) sums s is
 

@@ -50,14 +50,14 @@ stream_at whole taken s = record { elements = take taken whole; period = s.perio
 abbrev pub own_registers : ℕ → List Element → ℕ → ℕ → Timed → Group → List LinearRegister
 own_registers width whole number taken s g = map (register_of width number (stream_at whole taken s)) (group_registers g s.period)
 
-linear_from-more : (width : ℕ) (whole : List Element) (number taken : ℕ) (s : Timed) (g : Group) (gs : List Group) → rounds g ≡ false
+pub linear_from-more : (width : ℕ) (whole : List Element) (number taken : ℕ) (s : Timed) (g : Group) (gs : List Group) → rounds g ≡ false
     → linear_from width whole number taken s (g ∷ gs) ≡ own_registers width whole number taken s g ++ linear_from width whole (number + 1) (taken + size_of g) (after g s) gs
 linear_from-more width whole number taken s (Fir up filter down) gs is = refl
 linear_from-more width whole number taken s (DownCic factor stages delay) gs is = refl
 linear_from-more width whole number taken s (UpCic factor stages delay) gs is = refl
 linear_from-more width whole number taken s (Rounding shift mode) gs is = absurd (cc)
 
-linear_from-none : (width : ℕ) (whole : List Element) (number taken : ℕ) (s : Timed) (g : Group) (gs : List Group) → rounds g ≡ true → linear_from width whole number taken s (g ∷ gs) ≡ []
+pub linear_from-none : (width : ℕ) (whole : List Element) (number taken : ℕ) (s : Timed) (g : Group) (gs : List Group) → rounds g ≡ true → linear_from width whole number taken s (g ∷ gs) ≡ []
 linear_from-none width whole number taken s (Fir up filter down) gs is = absurd (cc)
 linear_from-none width whole number taken s (DownCic factor stages delay) gs is = absurd (cc)
 linear_from-none width whole number taken s (UpCic factor stages delay) gs is = absurd (cc)
@@ -177,7 +177,7 @@ number-below gs zero is = absurd (cc)
 number-below gs (suc n) is = let h = linear-below gs n is in omega (arith, h)
 
 -- what is still to come behind all groups is the output's register
-coming-none : (width ticks : ℕ) (whole : List Element) (number taken : ℕ) (b : Bool) → has_rounding (groups whole) ≡ b
+pub coming-none : (width ticks : ℕ) (whole : List Element) (number taken : ℕ) (b : Bool) → has_rounding (groups whole) ≡ b
     → coming b width whole number taken (last_stream width ticks whole) [] ≡ output_registers width ticks whole
 coming-none width ticks whole number taken true is =
     sym (ap (λ (b : Bool). if b then [] else register_of width 0 (record { elements = whole; period = (last_stream width ticks whole).period; offset = (last_stream width ticks whole).offset }) output_register ∷ []) is)

@@ -25,6 +25,7 @@ use Rattle.plan_check.specs.Accepted.{rates_test, peaks_test, costs_test, no_tal
 use Rattle.plan_check.specs.Amounts.{gain}
 use Rattle.plan_check.specs.Costs.{Tally, tally_after}
 use Rattle.plan_check.specs.Groups.{size_of, IsSplit}
+use Rattle.impulse_phase.specs.Reach.{Extent, extent}
 use Rattle.plan_laws.specs.Laws.{IsBetween}
 use Rattle.plan_laws.proofs.Passes.{passes_of}
 use Rattle.plan_laws.proofs.Reach.{apply_group, apply_groups, chain-groups}
@@ -36,6 +37,7 @@ use Rattle.chain_build.specs.declared.groups.Added.{Added}
 use Rattle.chain_build.specs.Built.{IsBuiltGroup, AreBuiltGroups, ArePlainGroups, has_rounding}
 use Rattle.chain_build.specs.Added.{IsTaking, IsGroupAdded, IsGrown, AreNameless, IsChained}
 use Rattle.chain_build.proofs.Walk.{IsWalk, factors_some, cancel, walk_rate, walk_next, walk_start, walk_most, walk_gain, walk_end, period-whole}
+use Rattle.chain_build.proofs.Pace.{Pace, pace_all, at_once, pace-more, extent-pace, balance-more}
 use Rattle.chain_build.proofs.Prefixes.{sizes, sizes-more, after-more, apply-more, chain-first}
 use Rattle.chain_build.proofs.Roundings.{unrounded, plain-group, plain-unrounded}
 use Rattle.chain_build.proofs.Samples.{AreSamples, the_samples, samples-inside}
@@ -64,6 +66,7 @@ pub record SoFar (width ticks : ℕ) (whole : List Element) (old net : NetView) 
   pub whole_is : (v : Sequence) → apply_groups (groups rest) (done v) ≡ apply_groups (groups whole) v
   pub period : last.period ≡ stream.period
   pub offset : last.offset ≡ stream.offset
+  pub balance : stream.period * (pace_all front at_once).up ≡ ticks * (pace_all front at_once).down
   pub inside : (v : Sequence) → AreSamples width v → IsInSpan stream.low stream.high (done v)
   pub grown : IsGrown old.cells net.cells
   pub grouped : 1 ≤ net.group
@@ -95,6 +98,7 @@ SoFar-start width ticks whole old net from left inside nameless offset period wi
   whole_is = λ v. refl;
   period = period;
   offset = offset;
+  balance = refl;
   inside = λ v h. samples-inside width ticks v h;
   grown = subst (λ (n : NetView). IsGrown old.cells n.cells) (sym is) (IsGrown-refl old.cells);
   grouped = subst (λ (n : NetView). 1 ≤ n.group) (sym is) (omega arith);
@@ -202,6 +206,8 @@ module _ {width ticks : ℕ} {whole : List Element} {old net : NetView} {from la
         end_is = ap (λ (gs : List Group). after_all gs so.stream) (sym split.parts) ∙ so.end_is;
         whole_is = λ v. ap (λ (gs : List Group). apply_groups gs (so.done v)) (sym split.parts) ∙ so.whole_is v;
         period = period_is r.period f.up f.down;
+        balance = subst (λ (p : Pace). period_after g so.stream.period * p.up ≡ ticks * p.down) (sym (pace-more front g at_once))
+            (balance-more so.stream.period (period_after g so.stream.period) ticks (pace_all front at_once).up (pace_all front at_once).down g so.balance (period-whole g so.stream.period (walk_rate head_walk)));
         offset = r.offset ∙ ap (λ (n : ℕ). n + adds.facts.delay last.period) so.offset ∙ ap (λ (p : ℕ). so.stream.offset + adds.facts.delay p) so.period ∙ ap (λ (n : ℕ). so.stream.offset + n) (f.delay so.stream);
         inside = next_in;
         grown = IsGrown-trans old.cells net.cells new.cells so.grown grown;
@@ -289,6 +295,12 @@ SoFar-none {rest = rest} so = none_left (groups rest) so.left_is
 pub SoFar-all : {width ticks : ℕ} {whole : List Element} {old net : NetView} {from last : Stream} {rest : List Element} {number : ℕ} {front : List Group} → SoFar width ticks whole old net from last rest [] number front → groups whole ≡ front
 SoFar-all {front = front} so = so.parts ∙ ap (λ (gs : List Group). front ++ gs) (SoFar-none so) ∙ append-nil front
 
+-- the periods of a stream, by the extent of what came before it
+pub balanced : {period : ℕ} (ticks own : ℕ) (front : List Group) (x : Extent) → own ≡ period → period * (pace_all front at_once).up ≡ ticks * (pace_all front at_once).down → record { up = x.up; down = x.down } ≡ pace_all front at_once
+    → own * x.up ≡ ticks * x.down
+balanced {period} ticks own front x same is pace =
+    ap (λ (n : ℕ). n * x.up) same ∙ ap (λ (p : Pace). period * p.up) pace ∙ is ∙ ap (λ (p : Pace). ticks * p.down) (sym pace)
+
 pub SoFar-end : {width ticks : ℕ} {whole : List Element} {old net : NetView} {from last : Stream} {rest : List Element} {number : ℕ} {front : List Group} → SoFar width ticks whole old net from last rest [] number front → IsChained width ticks whole old net from last
 SoFar-end {width} {ticks} {whole} {old} {net} {from} {last} {rest} {number} {front} so =
     let none = SoFar-none so in
@@ -304,6 +316,8 @@ SoFar-end {width} {ticks} {whole} {old} {net} {from} {last} {rest} {number} {fro
       period = so.period ∙ ap (λ (s : Timed). s.period) stream_is;
       offset = so.offset ∙ ap (λ (s : Timed). s.offset) stream_is;
       positive = subst (λ (p : ℕ). 1 ≤ p) (sym so.period) so.walk.positive;
+      long = let l = so.walk.long in let e = so.period in omega (arith, l, e);
+      balance = balanced ticks last.period front (extent whole) so.period so.balance (extent-pace whole ∙ ap (λ (gs : List Group). pace_all gs at_once) front_is);
       early = let e = so.offset in let h = so.walk.early in omega arith;
       low_small = subst (λ (s : Timed). unsigned_abs s.low ≤ 2 ^ 125) stream_is small.0;
       high_small = subst (λ (s : Timed). unsigned_abs s.high ≤ 2 ^ 125) stream_is small.1;

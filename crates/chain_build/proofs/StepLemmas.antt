@@ -64,13 +64,13 @@ pub record IsMapped {A B : Type 0} (f : A → B) (xs : List A) (i : ℕ) (b : B)
   pub there : slice_get xs i ≡ Some from
   pub is : f from ≡ b
 
-mapped : {A B : Type 0} (f : A → B) (xs : List A) (i : ℕ) (b : B) → slice_get (map f xs) i ≡ Some b → IsMapped f xs i b
+pub mapped : {A B : Type 0} (f : A → B) (xs : List A) (i : ℕ) (b : B) → slice_get (map f xs) i ≡ Some b → IsMapped f xs i b
 mapped f [] i b is = absurd (cc)
 mapped f (x ∷ xs) zero b is = record { from = x; there = refl; is = cc }
 mapped f (x ∷ xs) (suc i) b is = let m = mapped f xs i b is in record { from = m.from; there = m.there; is = m.is }
 
 -- a form that is linear
-linear_fir : (g : Group) (u : Option ℕ) (f : Option (List ℤ × Form)) (d : Option ℕ) → g ≡ Fir u f d → IsBuiltGroup g → is_linear (kind_of g) ≡ true
+pub linear_fir : (g : Group) (u : Option ℕ) (f : Option (List ℤ × Form)) (d : Option ℕ) → g ≡ Fir u f d → IsBuiltGroup g → is_linear (kind_of g) ≡ true
 linear_fir g u f d is built =
     let plain : form_of f ≡ Parallel = subst IsBuiltGroup is built in
     ap (λ (h : Group). is_linear (kind_of h)) is ∙ ap (λ (form : Form). is_linear (form_kind form)) plain
@@ -104,6 +104,13 @@ pub listed-mapped : (f : StageRegister → LinearRegister) (rs : List StageRegis
 listed-mapped f [] i r name is named = absurd (cc)
 listed-mapped f (x ∷ xs) zero r name is named = record { place = 0; r = f x; there = refl; named = ap (λ (y : StageRegister). (f y).name) (let e : x ≡ r = cc in e) ∙ named }
 listed-mapped f (x ∷ xs) (suc i) r name is named = let m = listed-mapped f xs i r name is named in record { place = suc m.place; r = m.r; there = m.there; named = m.named }
+
+-- the group adds registers if it is linear
+pub tells_own : (g : Group) (facts : StageFacts) → IsBuiltGroup g → HasFacts g facts → is_linear (kind_of g) ≡ true → TellsOwn g facts
+tells_own (Fir u f d) facts plain has linear = tells-fir u f d facts plain has
+tells_own (DownCic r n m) facts plain has linear = absurd (cc)
+tells_own (UpCic r n m) facts plain has linear = absurd (cc)
+tells_own (Rounding s m) facts plain has linear = absurd (cc)
 
 -- ---- the step of a linear group
 
@@ -156,13 +163,6 @@ module _ {plan : Plan} {old net mid new : NetView} {from last : Stream} {rest : 
         let there : slice_get (group_registers g so.stream.period) l.index ≡ Some l.r = ap (λ (rs : List StageRegister). slice_get rs l.index) (sym told_registers) ∙ l.there in
         listed-mapped (register_of (size plan.width) number at) (group_registers g so.stream.period) l.index l.r name there
         (ap (λ (k : NameKind). name_of number k l.r.number) l.is_kind ∙ ap (name_of number name.kind) l.is_number ∙ own_name)
-
-  -- the group adds registers if it is linear
-  tells_own : (g : Group) (facts : StageFacts) → IsBuiltGroup g → HasFacts g facts → is_linear (kind_of g) ≡ true → TellsOwn g facts
-  tells_own (Fir u f d) facts plain has linear = tells-fir u f d facts plain has
-  tells_own (DownCic r n m) facts plain has linear = absurd (cc)
-  tells_own (UpCic r n m) facts plain has linear = absurd (cc)
-  tells_own (Rounding s m) facts plain has linear = absurd (cc)
 
   own_each : has_rounding front ≡ false → rounds g ≡ false → (i : ℕ) (r : LinearRegister) → slice_get (own_registers (size plan.width) plan.elements number (sizes front) so.stream g) i ≡ Some r → IsRegisterOn (size plan.width) new.cells from r
   own_each none plain i r there = by g refl

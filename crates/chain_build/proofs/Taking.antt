@@ -26,7 +26,7 @@ module _ {plan : Plan} {old net : NetView} {from last : Stream} {rest : List Ele
   first-is : fact.first ≡ so.first
   first-is = ap (λ (f : GroupFacts). f.first) (fact_is so split)
 
-  taken-is : fact.first - 1 ≡ sizes front
+  pub taken-is : fact.first - 1 ≡ sizes front
   taken-is = let f = first-is in let e = so.first_is in omega (arith, f, e)
 
   pub can_take : (rounded : Bool) → rounded ≡ has_rounding front → CanTake plan fact g rounded

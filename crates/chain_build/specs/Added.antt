@@ -16,6 +16,7 @@ use Rattle.net_graph.specs.Grow.{Extends}
 use Rattle.net_graph.specs.Name.{is_input}
 use Rattle.net_graph.specs.Run.{Values, IsRun}
 use Rattle.net_graph.specs.WellFormed.{IsBound, IsFree}
+use Rattle.impulse_phase.specs.Reach.{extent}
 use Rattle.pipeline_balance.specs.Gate.{Carries}
 use Rattle.cic_chain.specs.Facts.{cic_down_facts, cic_up_facts}
 use Rattle.polyphase_fir.specs.Facts.{polyphase_facts}
@@ -66,8 +67,8 @@ abbrev pub CarriesChain : Cut → ℕ → List Element → List Cell → Stream 
 CarriesChain cut width elements cells from to =
     (inputs : ℕ → ℤ) (values : Values) (xs : List ℤ) → All (FitsWidth width) xs → IsRun cut cells inputs values → Carries values from (samples xs) → Carries values to (chain elements (samples xs))
 
--- The new net has a stream that carries the chain's values, also in the uncut run where no group rounds, with the period, offset and span of the last stream; of names in group 0 only
--- some of control are taken.
+-- The new net has a stream that carries the chain's values, also in the uncut run where no group rounds, with the period, offset and span of the last stream; it keeps pace with the samples.
+-- Of names in group 0 only some of control are taken.
 pub record IsChained (width ticks : ℕ) (elements : List Element) (old new : NetView) (from to : Stream) : Type 0 where
   pub grown : IsGrown old.cells new.cells
   pub grouped : 1 ≤ new.group
@@ -75,6 +76,8 @@ pub record IsChained (width ticks : ℕ) (elements : List Element) (old new : Ne
   pub period : to.period ≡ (last_stream width ticks elements).period
   pub offset : to.offset ≡ (last_stream width ticks elements).offset
   pub positive : 1 ≤ to.period
+  pub long : to.period < 2 ^ 31
+  pub balance : to.period * (extent elements).up ≡ ticks * (extent elements).down
   pub early : to.offset < 2 ^ 31
   pub low_small : unsigned_abs (last_stream width ticks elements).low ≤ 2 ^ 125
   pub high_small : unsigned_abs (last_stream width ticks elements).high ≤ 2 ^ 125

@@ -7,6 +7,7 @@ pub mod Linear
 pub mod LinearNet
 pub mod LinearOn
 pub mod Output
+pub mod Peaks
 pub mod Prefixes
 pub mod Told
 pub mod Shapes

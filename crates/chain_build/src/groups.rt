@@ -1,6 +1,6 @@
 // The groups of a plan, one after another.
 
-ghost use Rattle.std.specs.Prelude.{◌≡◌, ◌≤◌, ◌<◌, ◌^◌, pos, ◌≤ℤ◌, length, take, IfOk};
+ghost use Rattle.std.specs.Prelude.{◌≡◌, ◌-◌, ◌≤◌, ◌<◌, ◌^◌, pos, ◌≤ℤ◌, [], length, take, IfOk};
 ghost use Rattle.std.specs.Option.{option_map};
 ghost use Rattle.mr_values.specs.Value.{size, chain};
 ghost use Rattle.mr_values.specs.Timing.{groups, taps_of};
@@ -13,15 +13,17 @@ ghost use Rattle.span_ranges.specs.Span.{IsInSpan};
 ghost use Rattle.stage_law.specs.Realises.{Realises, IsUnused};
 ghost use Rattle.stage_law.specs.Streams.{HasRoom};
 ghost use Rattle.width_extreme.specs.Prefix.{IsStream};
-ghost use Rattle.chain_build.specs.Built.{IsBuiltGroup, AreBuiltGroups, rounds, has_rounding};
+ghost use Rattle.stage_law.specs.Kinds.{is_linear};
+ghost use Rattle.chain_build.specs.Built.{IsBuiltGroup, AreBuiltGroups, kind_of, rounds, has_rounding};
 ghost use Rattle.chain_build.specs.LinearOn.{HasGroupRegisters};
+ghost use Rattle.chain_build.specs.Peaks.{AddsPeaks, HasGroupPeaks, keeps};
 ghost use Rattle.chain_build.specs.Prefixes.{IsExactPrefix, CanTake, streams_before, elements_before};
 ghost use Rattle.chain_build.specs.Added.{IsTaking, IsGroupAdded, AreNameless, IsChained};
 ghost use Rattle.chain_build.specs.GroupCosts.{AreUngrouped, AreApart, HasCosts};
 ghost use Rattle.chain_build.specs.Shapes.{HaveLinearItems};
 
 use crate::cascades::{down_group, up_group};
-use crate::extremes::RegisterExtreme;
+use crate::extremes::{LinearPeak, is_linear, keep_peaks};
 use crate::prefix::prefix_ranges;
 use mr_values::{Memory, Plan};
 use net_graph::{Net, Stream};
@@ -52,7 +54,6 @@ pub(crate) struct Chained {
     pub(crate) stream: Stream,
     pub(crate) rounded: bool,
     pub(crate) costs: Vec<GroupCost>,
-    pub(crate) extremes: Vec<RegisterExtreme>,
 }
 
 /// Adds the nodes of a stage.
@@ -161,6 +162,7 @@ fn add_exact(
     group: &PlanGroup,
     plan: &Plan,
     taken: usize,
+    peaks: &mut Vec<LinearPeak>,
 ) -> Result<Added, Memory>
     requires within { from.node.place < length net.old.cells }
     requires group { 1 ≤ net.old.group }
@@ -174,9 +176,13 @@ fn add_exact(
     ensures ok { IfOk result (λ a. IsGroupAdded (group_of group.now) (IsStream (chain (take taken plan.now.elements)) (size plan.now.width)) net.old net.new from a) }
     ensures extends { Extends net.old.cells net.new.cells }
     ensures same_group { net.new.group ≡ net.old.group }
+    ensures peaks { IfOk result (λ a. AddsPeaks (is_linear (kind_of (group_of group.now))) (size plan.now.width) (take taken plan.now.elements) from taken a.emitted.peaks.items peaks.old.items peaks.new.items) }
 {
     let ranges = prefix_ranges(alloc, plan, taken)?;
     let added = add_group(alloc, net, from, group, &ranges)?;
+    if is_linear(added.cost.kind) {
+        keep_peaks(alloc, peaks, &ranges, &added.emitted.peaks, from, taken)?;
+    }
     Ok(added)
 }
 
@@ -226,6 +232,7 @@ fn add_next(
     plan: &Plan,
     fact: &GroupFacts,
     rounded: bool,
+    peaks: &mut Vec<LinearPeak>,
 ) -> Result<Added, Memory>
     requires within { from.node.place < length net.old.cells }
     requires group { 1 ≤ net.old.group }
@@ -238,11 +245,13 @@ fn add_next(
     ensures ok { IfOk result (λ a. IsGroupAdded (group_of group.now) (streams_before rounded (size plan.now.width) (elements_before plan.now fact.now) fact.now.span_lo fact.now.span_hi) net.old net.new from a) }
     ensures extends { Extends net.old.cells net.new.cells }
     ensures same_group { net.new.group ≡ net.old.group }
+    ensures peaks { IfOk result (λ a. AddsPeaks (keeps rounded (group_of group.now)) (size plan.now.width) (elements_before plan.now fact.now) from (fact.now.first - 1) a.emitted.peaks.items peaks.old.items peaks.new.items) }
 {
     if rounded {
         add_spanned(alloc, net, from, group, fact)
     } else {
-        add_exact(alloc, net, from, group, plan, fact.first as usize - 1)
+        let taken = fact.first as usize - 1;
+        add_exact(alloc, net, from, group, plan, taken, peaks)
     }
 }
 
@@ -253,7 +262,9 @@ pub(crate) fn add_groups(
     from: Stream,
     plan: &Plan,
     facts: &Facts,
+    peaks: &mut Vec<LinearPeak>,
 ) -> Result<Chained, Memory>
+    requires none { peaks.old.items ≡ [] }
     requires within { from.node.place < length net.old.cells }
     requires nameless { AreNameless net.old.cells }
     requires bound { IsBound net.old.cells }
@@ -267,6 +278,7 @@ pub(crate) fn add_groups(
     ensures rounded { IfOk result (λ c. c.rounded ≡ has_rounding (groups plan.now.elements)) }
     ensures registers { IfOk result (λ _. HasGroupRegisters (size plan.now.width) (size plan.now.ticks) plan.now.elements net.new.cells from) }
     ensures costs { IfOk result (λ c. AreApart net.new.cells → HasCosts (groups plan.now.elements) c.costs.items net.new.cells) }
+    ensures peaks { IfOk result (λ _. HasGroupPeaks (size plan.now.width) (size plan.now.ticks) plan.now.elements net.new.cells peaks.new.items) }
     ensures shapes { IfOk result (λ _. HaveLinearItems 1 (groups plan.now.elements) net.new.cells) }
 {
     let mut rest = plan.elements.as_slice();
@@ -280,7 +292,7 @@ pub(crate) fn add_groups(
             unreachable!()
         };
         net.set_group(number);
-        let added = add_next(alloc, net, last, &group, plan, fact, rounded)?;
+        let added = add_next(alloc, net, last, &group, plan, fact, rounded, peaks)?;
         last = added.emitted.stream;
         costs.push(added.cost)?;
         rounded |= is_rounding(&group);
@@ -291,6 +303,5 @@ pub(crate) fn add_groups(
         stream: last,
         rounded,
         costs,
-        extremes: Vec::new(alloc),
     })
 }

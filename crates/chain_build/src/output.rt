@@ -38,8 +38,8 @@ fn cut_to(net: &mut Net, node: Node, width: u8) -> Result<Node, Memory>
     Ok(to)
 }
 
-// The least number of bits that holds the range.
-fn width_of(range: Range) -> u8
+/// The least number of bits that holds the range.
+pub(crate) fn range_width(range: Range) -> u8
     ensures { IsLeastWidth range.lo range.hi result }
 {
     least_width(range.lo, range.hi)
@@ -61,7 +61,7 @@ pub(crate) fn add_outputs(
     requires free_valid { IsFree net.old.cells (name_of 0 Valid 0) }
     ensures ok { IfOk result (AddsOutputs range.lo range.hi net.old net.new from) }
 {
-    let width = width_of(range);
+    let width = range_width(range);
     let node = cut_to(net, from.node, width)?;
     let end = Stream {
         node,

@@ -2,6 +2,7 @@
 
 ghost use Rattle.std.specs.Prelude.{◌≡◌, ◌≤◌, pos, ◌≤ℤ◌, take, IfOk};
 ghost use Rattle.mr_values.specs.Value.{size, chain};
+ghost use Rattle.impulse_phase.specs.Reading.{IsResponseOf};
 ghost use Rattle.width_extreme.specs.Walk.{transform_of};
 ghost use Rattle.chain_build.specs.Prefixes.{IsExactPrefix};
 
@@ -27,6 +28,7 @@ pub(crate) fn prefix_ranges(
     requires { IsExactPrefix plan.now taken }
     ensures streams { IfOk result (λ ranges. transform_of ranges.table ≡ chain (take taken plan.now.elements)) }
     ensures width { IfOk result (λ ranges. ranges.width ≡ size plan.now.width) }
+    ensures table { IfOk result (λ ranges. IsResponseOf (take taken plan.now.elements) ranges.table) }
 {
     PrefixRanges::new(alloc, width_of(plan), &plan.elements.as_slice()[..taken])
 }

@@ -17,8 +17,8 @@ classes-times table longest small = mul-le-mul_left (length (rows_of table)) (om
 pub classes-room : (table : Table) → length (rows_of table) * 2 ^ 64 ≤ 2 ^ 96
 classes-room table = omega (arith, few-classes table)
 
-pub needed-near : (table : Table) (longest zeros factors : ℕ) → longest < 2 ^ 64 → zeros < 2 ^ 64 → factors < 2 ^ 64 → needed_for table longest zeros factors ≤ length (rows_of table) * 2 ^ 64 + 2 ^ 65
-needed-near table longest zeros factors small few short = omega (arith, classes-times table longest small, few, short)
+pub needed-near : (table : Table) (longest back factors : ℕ) → longest < 2 ^ 64 → back < 2 ^ 64 → factors < 2 ^ 64 → needed_for table longest back factors ≤ length (rows_of table) * 2 ^ 64 + 2 ^ 65
+needed-near table longest back factors small few short = omega (arith, classes-times table longest small, few, short)
 
 -- so many classes hold few rounds
 pub rounds-few : (table : Table) (index : ℕ) → index ≤ length (rows_of table) * 2 ^ 64 + 2 ^ 66 → index / length (rows_of table) < 2 ^ 67

@@ -7,6 +7,7 @@ use Rattle.chain_build.specs.declared.groups.GroupCost.{GroupCost}
 use Rattle.chain_build.specs.Built.{has_rounding}
 use Rattle.chain_build.proofs.CostsSoFar.{CostsSoFar, CostsSoFar-first, CostsSoFar-next, CostsSoFar-end, shapes-end}
 use Rattle.chain_build.proofs.RegistersSoFar.{RegistersSoFar, RegistersSoFar-start}
+use Rattle.chain_build.proofs.PeaksSoFar.{PeaksSoFar-start, peaks_next, peaks_end}
 use Rattle.chain_build.proofs.StepAt.{registers_next, registers_end}
 use Rattle.chain_build.proofs.Roundings.{rounded-more}
 use Rattle.chain_build.proofs.SoFar.{SoFar-plan, SoFar-next, SoFar-all, SoFar-end, SoFar-none, no_facts, so_at, so_none, so_all, unused, taking}
@@ -21,6 +22,7 @@ loop-fact-init c = (
     refl,
     subst (λ (es : List Element). RegistersSoFar (size c.args.plan.now.width) (size c.args.plan.now.ticks) c.args.plan.now.elements c.set_group.new.self.cells c.args.from [] (groups es) (input (size c.args.plan.now.width) (size c.args.plan.now.ticks)) 1) (sym c.as_slice-rest.ensures)
         (RegistersSoFar-start (size c.args.plan.now.width) (size c.args.plan.now.ticks) c.args.plan.now.elements c.set_group.new.self.cells c.args.from),
+    PeaksSoFar-start (size c.args.plan.now.width) (size c.args.plan.now.ticks) c.args.plan.now.elements c.set_group.new.self.cells (groups c.as_slice-rest.result.now) c.args.peaks.now.items (ap groups c.as_slice-rest.ensures) c.requires.none,
   ),
   CostsSoFar-first (groups c.args.plan.now.elements) (groups c.as_slice-rest.result.now) c.args.net.now c.set_group.new.self c.new-costs.result.items (ap groups c.as_slice-rest.ensures) c.set_group.ensures c.new-costs.ensures.items c.requires.bound c.requires.ungrouped c.requires.nameless,
 )
@@ -45,6 +47,7 @@ loop-fact-preserved c =
         SoFar-next so c.in-Some.ensures c.set_group-in-loop-fact.new.self c.in_ok-added.added _ (holds_before c.requires.accepted so c.in-Some.ensures c.loop-fact.rounded) c.set_group-in-loop-fact.ensures c.in_ok-added.ensures.ok,
         rounded-more c.loop-fact.invariant.0.0 _ c.loop-fact.rounded _ c.loop-fact.invariant.0.2 c.is_rounding-rounded.ensures,
         registers_next c.requires.accepted so c.in-Some.ensures c.loop-fact.rounded c.loop-fact.invariant.0.2 c.loop-fact.invariant.0.3 c.set_group-in-loop-fact.new.self c.in_ok-added.added c.set_group-in-loop-fact.ensures c.in_ok-added.ensures.ok,
+        peaks_next c.requires.accepted so c.in-Some.ensures c.loop-fact.rounded c.loop-fact.invariant.0.2 c.set_group-in-loop-fact.ensures c.in_ok-added.ensures.ok c.in_ok-added.ensures.peaks c.loop-fact.invariant.0.4,
       ),
       subst (λ (costs : List GroupCost). CostsSoFar (groups c.args.plan.now.elements) c.add_next.new.net.cells (groups c.in-Some.others.now) costs (c.loop-fact.number + 1)) (sym c.in_ok-push.ensures.items)
           (CostsSoFar-next c.loop-fact.invariant.1 c.in-Some.ensures.parts (λ name data_kind more. c.loop-fact.invariant.0.1.names name data_kind (inl more)) c.set_group-in-loop-fact.new.self _ c.loop-fact.last c.in_ok-added.added c.set_group-in-loop-fact.ensures c.in_ok-added.ensures.ok),
@@ -53,4 +56,4 @@ loop-fact-preserved c =
 pub returns : goal.returns
 returns c =
     let so = so_all c.args.facts.now.groups.items c.loop-fact.fact-index c.loop-fact.invariant.0.1 (omega (arith, c.deref-fact-items.ensures.len)) in
-    record { ok = SoFar-end so; rounded = c.loop-fact.invariant.0.2 ∙ ap has_rounding (sym (SoFar-all so)); registers = registers_end so c.loop-fact.invariant.0.3; costs = CostsSoFar-end c.loop-fact.invariant.1 (SoFar-none so); shapes = shapes-end c.loop-fact.invariant.1 (SoFar-none so) }
+    record { ok = SoFar-end so; rounded = c.loop-fact.invariant.0.2 ∙ ap has_rounding (sym (SoFar-all so)); registers = registers_end so c.loop-fact.invariant.0.3; costs = CostsSoFar-end c.loop-fact.invariant.1 (SoFar-none so); peaks = peaks_end so c.loop-fact.invariant.0.4; shapes = shapes-end c.loop-fact.invariant.1 (SoFar-none so) }

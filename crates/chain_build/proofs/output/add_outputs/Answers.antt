@@ -12,4 +12,4 @@ name_node-requires-clause-free c = valid_free {from = c.args.from} c.in_ok-node.
 
 pub returns : goal.returns
 returns c =
-    record { ok = AddsOutputs-named {from = c.args.from} c.in_ok-node.ensures.ok c.in_ok-gate.ensures.ok c.in_ok-out_q.ensures.ok c.in_ok-out_valid.ensures.ok c.args.range.lo c.args.range.hi c.requires.positive c.width_of-width.ensures c.name_node.ensures }
+    record { ok = AddsOutputs-named {from = c.args.from} c.in_ok-node.ensures.ok c.in_ok-gate.ensures.ok c.in_ok-out_q.ensures.ok c.in_ok-out_valid.ensures.ok c.args.range.lo c.args.range.hi c.requires.positive c.range_width-width.ensures c.name_node.ensures }
