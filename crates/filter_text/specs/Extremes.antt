@@ -37,7 +37,7 @@ pair_of (Some (Some e)) = Some (e.tick, e.value)
 abbrev pub told_at : List (Option ExtremeAt) → ℕ → Option (ℕ × ℤ)
 told_at extremes name = pair_of (slice_get extremes name)
 
--- what stands at a number is told of a register whose name has this number
+-- what stands at a number is told of a register whose name has this number: it is six past the place of a node behind the first, the input
 pub record IsToldOf (told : List RegisterExtreme) (number : ℕ) (extreme : ExtremeAt) : Type 0 where
   pub j : ℕ
   pub t : RegisterExtreme
