@@ -1,10 +1,9 @@
 -- The text, read as samples.
-use Rattle.std.proofs.Common.{◌≡◌, ◌==◌, ◌∙◌, ℕ, zero, suc, ◌+◌, ◌-◌, ◌<◌, ◌≤◌, ◌^◌, Bool, true, false, not, cond, List, [], ◌∷◌, ◌++◌, length, take, drop, Option, None, Some, Result, Ok, Err, All, refl, sym, ap, subst, append_assoc, length-append, length-take, ℤ, pos, arith, nat_le, nat_lt}
+use Rattle.std.proofs.Common.{◌≡◌, ◌==◌, ◌∙◌, ℕ, zero, suc, ◌+◌, ◌-◌, ◌<◌, ◌≤◌, ◌^◌, Bool, true, false, not, cond, List, [], ◌∷◌, ◌++◌, length, take, drop, Option, None, Some, Result, Ok, Err, All, refl, sym, ap, append_assoc, length-append, length-take, ℤ, pos, arith, nat_le, nat_lt}
 use Rattle.std.specs.Prelude.{decimal, codes, slice_index}
 use Rattle.std.specs.Fmt.{signed_decimal}
 use Rattle.std.specs.List.{list_all}
 use Rattle.std.proofs.lemmas.List.Folds.{list_all-append}
-use Rattle.std.proofs.lemmas.Bool.{ne_eqb}
 use Rattle.std.proofs.lemmas.Bool.Decides.{nat_tests}
 use Rattle.mr_values.specs.Width.{FitsWidth}
 use Rattle.mr_values.proofs.WidthLemmas.{FitsWidth-more}
@@ -13,15 +12,15 @@ use Rattle.sample_file.specs.declared.fault.LineFault.TheVariants.{TooManyLines,
 use Rattle.sample_file.specs.declared.row.Row.{Row}
 use Rattle.sample_file.specs.Kept.{IsOneLine}
 use Rattle.sample_file.specs.Lines.{lines_of, content_of}
-use Rattle.sample_file.specs.Fields.{fields_of, is_skipped, is_held}
-use Rattle.sample_file.specs.Reading.{Reading, no_rows, rows_of, row_then, line_row, content_row, row_of, file_rows}
-use Rattle.sample_file.specs.Ranges.{Checked, samples_of, sample_of, checked, item_then}
+use Rattle.sample_file.specs.Fields.{is_held}
+use Rattle.sample_file.specs.Reading.{rows_of, row_then, line_row, content_row}
+use Rattle.sample_file.specs.Ranges.{samples_of, item_then}
 use Rattle.sample_file.proofs.LineSteps.{lines_of-ended}
 use Rattle.sample_file.proofs.RangeSteps.{same-held}
 use Rattle.extreme_file.specs.Text.{register_line, sample_lines, extreme_lines}
 use Rattle.extreme_file.specs.Room.{HasRoom}
 use Rattle.extreme_file.specs.Reading.{ReadsAs}
-use Rattle.extreme_file.proofs.Numerals.{ArePlain, one_plain, fields_plain, counted_plain, content_plain, plain_decimal, printed_signed, length_decimal, IsPrinted}
+use Rattle.extreme_file.proofs.Numerals.{one_plain, fields_plain, counted_plain, content_plain, plain_decimal, printed_signed, length_decimal, IsPrinted}
 
 -- ---- the first line
 

@@ -1,18 +1,17 @@
 -- Printed numbers as lines and as fields.
-use Rattle.std.proofs.Common.{◌≡◌, ◌==◌, ◌∙◌, ℕ, zero, suc, ◌+◌, ◌-◌, ◌%◌, ◌<◌, ◌≤◌, ◌^◌, Bool, true, false, not, ◌&&◌, cond, List, [], ◌∷◌, ◌++◌, length, drop, find, filter, Option, None, Some, refl, sym, ap, ℤ, pos, negsuc, neg_ℤ, arith}
+use Rattle.std.proofs.Common.{◌≡◌, ◌==◌, ◌∙◌, ℕ, zero, suc, ◌+◌, ◌-◌, ◌%◌, ◌<◌, ◌≤◌, ◌^◌, Bool, true, false, not, ◌&&◌, cond, List, [], ◌∷◌, ◌++◌, length, filter, None, Some, refl, sym, ap, ℤ, pos, negsuc, neg_ℤ, arith}
 use Rattle.std.specs.Prelude.{decimal, slice_index}
 use Rattle.std.specs.Fmt.{signed_decimal}
 use Rattle.std.specs.Char.{is_ascii_digit}
 use Rattle.std.specs.List.{list_all, slice_split, onto_first}
-use Rattle.std.specs.Str.Parse.{starts_with_minus, without_leading_plus, without_leading_sign, digits_value, signed_digits_value}
+use Rattle.std.specs.Str.Parse.{starts_with_minus, without_leading_sign, digits_value, signed_digits_value}
 use Rattle.std.proofs.lemmas.Fmt.{decimal_by_steps_wide, decimal_is_IsNumeral_wide, length-decimal-le_wide}
 use Rattle.std.proofs.lemmas.Bool.{ne_eqb}
 use Rattle.std.proofs.lemmas.Bool.Decides.{nat_tests}
 use Rattle.mr_values.specs.Width.{FitsWidth}
 use Rattle.mr_values.proofs.WidthLemmas.{fits_out}
-use Rattle.sample_file.specs.Kept.{IsOneLine}
 use Rattle.sample_file.specs.Lines.{content_of}
-use Rattle.sample_file.specs.Fields.{is_blank, is_other, is_filled, fields_of, is_skipped, is_numeral, is_held, number_of}
+use Rattle.sample_file.specs.Fields.{is_blank, is_filled, fields_of, is_skipped, is_numeral, is_held, number_of}
 use Rattle.sample_file.proofs.RangeSteps.{same-held}
 
 -- ---- plain bytes

@@ -1,4 +1,4 @@
-use Rattle.std.proofs.Common.{◌≡◌, ℤ, pos, negsuc, FitsSigned, subst, arith, rules, sym}
+use Rattle.std.proofs.Common.{◌≡◌, ℤ, FitsSigned, subst, arith, rules, sym}
 use Rattle.std.specs.Int.{w128}
 use Rattle.std.proofs.lemmas.Grind.{common_steps}
 use Rattle.std.proofs.lemmas.Int.{ints}
