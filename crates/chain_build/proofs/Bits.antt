@@ -1,10 +1,10 @@
 -- A number that needs so many bits doesn't fit fewer.
-use Rattle.std.proofs.Common.{◌≡◌, ◌∙◌, ℕ, zero, suc, ◌-◌, ◌/◌, ◌^◌, ◌<◌, ◌≤◌, max, refl, sym, ap, subst, arith, inl, inr, Bool, true, false, cond, nat_eq, ℤ, pos, negsuc}
+use Rattle.std.proofs.Common.{◌≡◌, ◌∙◌, ℕ, zero, suc, ◌-◌, ◌/◌, ◌^◌, ◌<◌, ◌≤◌, max, sym, ap, arith, inl, inr, Bool, true, false, nat_eq, ℤ, pos, negsuc}
 use Rattle.std.proofs.lemmas.Int.{ints}
 use Rattle.std.proofs.Math.Nat.{pow-suc}
 use Rattle.std.proofs.lemmas.Bool.{cases_lt, eqb-true, eqb-false, ne_eqb}
 use Rattle.mr_values.specs.Width.{FitsWidth}
-use Rattle.mr_values.specs.Timing.{bit_length_to, signed_bits, wide}
+use Rattle.mr_values.specs.Timing.{bit_length_to, signed_bits}
 use Rattle.stage_law.specs.Registers.{bits_for, needs_high}
 use Rattle.stage_law.specs.declared.ranges.Range.{Range}
 use Rattle.width_extreme.specs.Furthest.{end_of}

@@ -1,5 +1,5 @@
 -- The peaks of all linear registers of a plan, and what is told of them.
-use Rattle.std.proofs.Common.{◌≡◌, ◌∙◌, ℕ, suc, ◌+◌, ◌*◌, ◌^◌, ◌<◌, ◌≤◌, Bool, true, false, if◌then◌else◌, refl, sym, ap, subst, arith, List, [], ◌∷◌, ◌++◌, append-nil, length, map, take, Some, slice_get, ℤ}
+use Rattle.std.proofs.Common.{◌≡◌, ◌∙◌, ℕ, ◌*◌, ◌^◌, ◌<◌, Bool, true, false, if◌then◌else◌, refl, sym, ap, subst, arith, List, [], ◌∷◌, ◌++◌, append-nil, length, map, take}
 use Rattle.std.proofs.lemmas.List.{take_all}
 use Rattle.std.proofs.lemmas.Option.{slice_get-map}
 use Rattle.std.specs.Option.{option_map}
@@ -10,17 +10,14 @@ use Rattle.net_graph.specs.declared.cell.Stream.{Stream}
 use Rattle.net_graph.specs.Grow.{Extends}
 use Rattle.impulse_phase.specs.Reach.{extent}
 use Rattle.impulse_phase.specs.Response.{AreLinear}
-use Rattle.stage_law.specs.declared.stage.Peak.{Peak}
-use Rattle.stage_law.specs.Least.{named_peak}
 use Rattle.stage_law.specs.Registers.{peaks_of}
 use Rattle.chain_build.specs.declared.extremes.LinearPeak.{LinearPeak}
 use Rattle.chain_build.specs.declared.extremes.RegisterExtreme.{RegisterExtreme}
 use Rattle.chain_build.specs.Built.{has_rounding}
 use Rattle.chain_build.specs.Linear.{LinearRegister, linear, output_register, prefix_range, register_of}
-use Rattle.chain_build.specs.LinearOn.{output_registers}
 use Rattle.chain_build.specs.Peaks.{AreKept, IsKeptPeak, AddsChainPeak, AddsOutputPeak, ArePeaksOf, HasGroupPeaks, as_extreme}
 use Rattle.chain_build.specs.Told.{TellsRegister, TellsRegisters}
-use Rattle.chain_build.proofs.PeakPlaces.{peaks-of, ArePeaksOf-none, ArePeaksOf-append, ArePeaksOf-later}
+use Rattle.chain_build.proofs.PeakPlaces.{peaks-of, ArePeaksOf-append, ArePeaksOf-later}
 use Rattle.chain_build.proofs.StepLemmas.{mapped}
 
 module _ (width ticks : ℕ) (elements : List Element) (mid new : List Cell) (stream : Stream) (before after : List LinearPeak) (linear_is : has_rounding (groups elements) ≡ false → AreLinear elements) (period : stream.period ≡ (last_stream width ticks elements).period)

@@ -1,5 +1,5 @@
 -- Peaks that are kept one after another.
-use Rattle.std.proofs.Common.{◌≡◌, ◌∙◌, ℕ, ◌+◌, ◌<◌, ◌≤◌, refl, sym, ap, subst, arith, suc, All, Bool, true, false, List, [], ◌∷◌, ◌++◌, append_assoc, append-nil, length, map, take, get_or, slice_get, Some, ℤ, pos}
+use Rattle.std.proofs.Common.{◌≡◌, ◌∙◌, ℕ, ◌+◌, ◌<◌, ◌≤◌, refl, sym, ap, subst, suc, All, Bool, true, false, List, [], ◌∷◌, ◌++◌, append_assoc, append-nil, length, map, take, get_or, ℤ, pos}
 use Rattle.std.proofs.lemmas.List.{map-append, take_all, take_more}
 use Rattle.std.proofs.lemmas.Option.{slice_get_read}
 use Rattle.mr_values.specs.declared.plan.Element.{Element}
@@ -8,19 +8,17 @@ use Rattle.mr_values.specs.Value.{size, chain}
 use Rattle.mr_values.specs.Width.{FitsWidth}
 use Rattle.net_graph.specs.declared.cell.Stream.{Stream}
 use Rattle.impulse_phase.specs.Reading.{IsResponseOf, rows_of, responses_of}
-use Rattle.impulse_phase.specs.Response.{AreLinear, Responses, responses, full_cycle}
-use Rattle.stage_law.specs.Streams.{Streams, AreWithin, magnitudes}
+use Rattle.impulse_phase.specs.Response.{AreLinear, Responses, responses}
+use Rattle.stage_law.specs.Streams.{Streams, AreWithin}
 use Rattle.stage_law.specs.Weights.{weights_of}
-use Rattle.stage_law.specs.declared.ranges.Range.{Range}
 use Rattle.stage_law.specs.declared.stage.Peak.{Peak}
 use Rattle.width_extreme.specs.declared.prefix.PrefixRanges.{PrefixRanges}
 use Rattle.width_extreme.specs.Furthest.{end_of, IsEndReached}
-use Rattle.width_extreme.specs.Prefix.{IsStream, range_of, finer_classes}
+use Rattle.width_extreme.specs.Prefix.{range_of, finer_classes}
 use Rattle.width_extreme.specs.Walk.{transform_of, HasFormRoom}
 use Rattle.width_extreme.proofs.Lawful.{tells}
 use Rattle.chain_build.specs.declared.extremes.LinearPeak.{LinearPeak}
 use Rattle.chain_build.specs.declared.extremes.RegisterExtreme.{RegisterExtreme}
-use Rattle.chain_build.specs.Linear.{prefix_range}
 use Rattle.chain_build.specs.Peaks.{HasPlace, AreWithPlace, AreKept, AddsKeptOver, IsKeptOver, IsEndBy, HasSumRoom, IsKeptPeak, AddsPeaks, as_extreme}
 use Rattle.chain_build.proofs.PeakLists.{kept-push, kept-weaker}
 use Rattle.chain_build.proofs.SameStreams.{same_streams, streams_same}

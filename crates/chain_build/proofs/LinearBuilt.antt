@@ -1,12 +1,11 @@
 -- The linear registers of a plan in its net.
-use Rattle.std.proofs.Common.{◌≡◌, ◌⊎◌, ℕ, zero, suc, ◌+◌, ◌-◌, ◌*◌, ◌<◌, ◌≤◌, max, Bool, true, false, cond, if◌then◌else◌, List, [], ◌∷◌, ◌++◌, Some, None, slice_get, refl, sym, ◌∙◌, ap, subst, arith, inl, inr, nat_eq, ℤ, pos}
+use Rattle.std.proofs.Common.{◌≡◌, ◌⊎◌, ℕ, zero, suc, ◌+◌, ◌*◌, ◌≤◌, Bool, true, false, cond, if◌then◌else◌, List, [], ◌∷◌, ◌++◌, Some, None, slice_get, refl, sym, ◌∙◌, ap, subst, arith, inl, inr, ℤ, pos}
 use Rattle.std.specs.Prelude.{All}
-use Rattle.std.proofs.lemmas.Bool.{cases_lt}
 use Rattle.mr_values.specs.declared.plan.Element.{Element}
 use Rattle.mr_values.specs.Sequence.{samples, filter}
 use Rattle.mr_values.specs.Timing.{Group, groups, last_stream, latency}
 use Rattle.mr_values.specs.Value.{chain}
-use Rattle.mr_values.specs.Width.{FitsWidth, IsLeastWidth}
+use Rattle.mr_values.specs.Width.{FitsWidth}
 use Rattle.net_graph.specs.declared.cell.Cell.{Cell}
 use Rattle.net_graph.specs.declared.cell.Item.TheVariants.{Input, Register}
 use Rattle.net_graph.specs.declared.cell.Node.{Node}
@@ -19,22 +18,18 @@ use Rattle.net_graph.specs.Cut.{Cut, IsCut, cut_all, cut_control}
 use Rattle.net_graph.specs.Grow.{Adds}
 use Rattle.net_graph.specs.Name.{IsRegisterKind, IsRegisterName}
 use Rattle.net_graph.specs.Run.{Values, IsRun}
-use Rattle.net_graph.specs.WellFormed.{IsWellFormed, IsFree, IsNamed}
+use Rattle.net_graph.specs.WellFormed.{IsWellFormed, IsNamed}
 use Rattle.net_graph.proofs.CutLemmas.{IsCut-all, IsCut-control}
-use Rattle.net_graph.proofs.NetLemmas.{cell_of_added}
 use Rattle.pipeline_balance.specs.Gate.{Carries}
 use Rattle.pipeline_balance.specs.Numbered.{IsRegister, name_of}
-use Rattle.impulse_phase.specs.Response.{AreLinear}
 use Rattle.polyphase_fir.proofs.PeakLemmas.{bits_least}
 use Rattle.rounding_stage.proofs.MapLemmas.{fits_between}
-use Rattle.stage_law.specs.Range.{InClass}
 use Rattle.stage_law.specs.Registers.{HeldSum, bits_for, bits_of}
-use Rattle.stage_law.specs.declared.ranges.Range.{Range}
 use Rattle.chain_build.specs.declared.output.Outputs.{Outputs}
 use Rattle.chain_build.specs.Added.{IsChained}
 use Rattle.chain_build.specs.Built.{ArePlainGroups, has_rounding}
 use Rattle.chain_build.specs.ChainNet.{HasSamples, ShowsValues}
-use Rattle.chain_build.specs.Linear.{LinearRegister, PrefixStream, each_index, linear, output_range, output_register, prefix_range, register_of, is_linear_number}
+use Rattle.chain_build.specs.Linear.{LinearRegister, PrefixStream, each_index, output_range, output_register, prefix_range, register_of, is_linear_number}
 use Rattle.chain_build.specs.LinearNet.{IsRegisterIn, IsLinearName, IsListed, HasLinearRegisters}
 use Rattle.chain_build.specs.LinearOn.{IsRegisterOn, HasGroupRegisters, output_registers}
 use Rattle.chain_build.specs.Output.{AddsOutputs}

@@ -1,18 +1,14 @@
 -- The peak of the register with a name.
-use Rattle.std.proofs.Common.{◌≡◌, ◌∙◌, ℕ, ◌+◌, ◌<◌, ◌≤◌, refl, sym, ap, subst, arith, List, length, take, get_or, Some, slice_get, ℤ, inl, inr}
+use Rattle.std.proofs.Common.{◌≡◌, ◌∙◌, ℕ, ◌+◌, ◌<◌, ◌≤◌, refl, sym, ap, subst, arith, List, length, take, get_or, Some, slice_get, inl, inr}
 use Rattle.std.proofs.lemmas.Bool.{cases_lt}
 use Rattle.std.proofs.lemmas.Option.{slice_get_read, slice_get_within}
 use Rattle.mr_values.specs.declared.plan.Element.{Element}
 use Rattle.net_graph.specs.declared.cell.Cell.{Cell}
 use Rattle.net_graph.specs.declared.cell.Item.TheVariants.{Register}
-use Rattle.net_graph.specs.declared.name.Name.{Name}
 use Rattle.net_graph.specs.declared.name.NameKind.{NameKind}
 use Rattle.net_graph.specs.declared.name.NameKind.TheVariants.{Valid}
-use Rattle.net_graph.specs.Cells.{cell_at}
 use Rattle.net_graph.specs.Name.{IsRegisterKind, written_name}
-use Rattle.net_graph.specs.WellFormed.{IsNamed, IsNetlist, IsWellFormed}
-use Rattle.pipeline_balance.specs.Numbered.{IsRegister}
-use Rattle.stage_law.specs.Registers.{HeldSum}
+use Rattle.net_graph.specs.WellFormed.{IsNamed, IsNetlist}
 use Rattle.chain_build.specs.declared.extremes.LinearPeak.{LinearPeak}
 use Rattle.chain_build.specs.declared.extremes.RegisterSamples.{RegisterSamples}
 use Rattle.chain_build.specs.Linear.{LinearRegister, linear}

@@ -1,8 +1,7 @@
 -- The peak of the output's register.
-use Rattle.std.proofs.Common.{◌≡◌, ◌∙◌, ℕ, zero, suc, ◌*◌, ◌^◌, ◌<◌, ◌≤◌, max, refl, sym, ap, subst, arith, Bool, true, false, cond, nat_eq, List, [], ◌∷◌, ◌++◌, append-nil, length, map, replicate, slice_get, Some, None, ℤ, pos, negsuc}
+use Rattle.std.proofs.Common.{◌≡◌, ◌∙◌, ℕ, zero, suc, ◌<◌, ◌≤◌, max, refl, sym, ap, subst, arith, Bool, true, false, cond, nat_eq, List, [], ◌∷◌, ◌++◌, append-nil, map, slice_get, Some, None, ℤ, pos, negsuc}
 use Rattle.std.proofs.lemmas.Bool.{eq-eqb, ne_eqb}
 use Rattle.mr_values.specs.declared.plan.Element.{Element}
-use Rattle.mr_values.specs.Sequence.{Sequence}
 use Rattle.mr_values.specs.Timing.{signed_bits}
 use Rattle.mr_values.specs.Value.{chain}
 use Rattle.mr_values.specs.Width.{IsLeastWidth}
@@ -16,7 +15,7 @@ use Rattle.pipeline_balance.specs.Numbered.{IsRegister, name_of}
 use Rattle.polyphase_fir.proofs.PeakLemmas.{bits_least}
 use Rattle.stage_law.specs.Least.{named_peak}
 use Rattle.stage_law.specs.Registers.{HeldSum, NamedPeak, bits_for, needs_high, peak_at, peaks_of}
-use Rattle.stage_law.specs.Streams.{HasRoom, AreWithin, magnitudes}
+use Rattle.stage_law.specs.Streams.{HasRoom}
 use Rattle.stage_law.specs.Weights.{weights_of}
 use Rattle.stage_law.specs.declared.ranges.Class.{Class}
 use Rattle.stage_law.specs.declared.ranges.Range.{Range}
@@ -24,7 +23,7 @@ use Rattle.stage_law.specs.declared.stage.Peak.{Peak}
 use Rattle.width_extreme.specs.declared.prefix.PrefixRanges.{PrefixRanges}
 use Rattle.width_extreme.specs.Prefix.{IsStream}
 use Rattle.width_extreme.specs.Walk.{transform_of}
-use Rattle.chain_build.specs.Linear.{each_index, output_register, prefix_range}
+use Rattle.chain_build.specs.Linear.{each_index, output_register}
 use Rattle.chain_build.specs.Peaks.{HasPlace, AreWithPlace, AreOutputPeaks, listed_value}
 use Rattle.chain_build.proofs.OutputRange.{room-value}
 use Rattle.chain_build.proofs.PeakLists.{named-there}

@@ -1,8 +1,8 @@
 -- A peak that is kept is that of a register of the plan, and the samples that are found drive the register to its extreme.
-use Rattle.std.proofs.Common.{◌≡◌, ◌∙◌, ℕ, zero, suc, ◌+◌, ◌-◌, ◌*◌, ◌^◌, ◌<◌, ◌≤◌, refl, sym, ap, subst, arith, Bool, List, [], ◌∷◌, ◌++◌, length, map, take, Option, Some, None, IsSome, slice_get, ℤ, pos, inl, inr}
+use Rattle.std.proofs.Common.{◌≡◌, ◌∙◌, ℕ, zero, suc, ◌+◌, ◌*◌, ◌^◌, ◌<◌, ◌≤◌, refl, sym, ap, subst, arith, Bool, List, [], ◌∷◌, ◌++◌, length, map, take, Option, Some, IsSome, slice_get, ℤ, pos, inl, inr}
 use Rattle.std.proofs.lemmas.Bool.{cases_lt}
 use Rattle.mr_values.specs.declared.plan.Element.{Element}
-use Rattle.mr_values.specs.Sequence.{Sequence, samples, filter}
+use Rattle.mr_values.specs.Sequence.{samples, filter}
 use Rattle.mr_values.specs.Value.{chain}
 use Rattle.net_graph.specs.declared.cell.Cell.{Cell}
 use Rattle.net_graph.specs.declared.cell.Node.{Node}
@@ -13,7 +13,6 @@ use Rattle.net_graph.specs.Grow.{Extends}
 use Rattle.net_graph.proofs.CellLemmas.{cell_at-is, cell_at-there}
 use Rattle.impulse_phase.specs.Reach.{extent}
 use Rattle.impulse_phase.specs.Response.{AreLinear}
-use Rattle.pipeline_balance.specs.Numbered.{name_of}
 use Rattle.stage_law.specs.Least.{named_peak}
 use Rattle.stage_law.specs.Range.{InClass}
 use Rattle.stage_law.specs.Registers.{HeldSum, StageRegister, NamedPeak, bits_of, needs_high, peaks_of}
@@ -21,9 +20,9 @@ use Rattle.stage_law.specs.Weights.{weights_of}
 use Rattle.stage_law.specs.declared.ranges.Class.{Class}
 use Rattle.stage_law.specs.declared.stage.Peak.{Peak}
 use Rattle.chain_build.specs.declared.extremes.LinearPeak.{LinearPeak}
-use Rattle.chain_build.specs.Extremes.{IsExtremeInput, IsReached}
+use Rattle.chain_build.specs.Extremes.{IsExtremeInput}
 use Rattle.chain_build.specs.Linear.{LinearRegister, PrefixStream, prefix_range, register_of}
-use Rattle.chain_build.specs.Peaks.{AreKept, IsEndBy, HasSumRoom, IsKeptPeak, IsPlaceOf, IsPeakOf, IsAmong, IsOneOf, ArePeaksOf}
+use Rattle.chain_build.specs.Peaks.{AreKept, IsEndBy, HasSumRoom, IsKeptPeak, IsPlaceOf, IsPeakOf, ArePeaksOf}
 use Rattle.chain_build.proofs.Bits.{end-over}
 use Rattle.chain_build.proofs.Pace.{read-early}
 use Rattle.chain_build.proofs.PeakLists.{needed_of, needed-more, peak_for, listed-each, listed-only, kept-each, kept-only, named-there}

@@ -1,10 +1,9 @@
 -- The sums of a linear group's peaks stay small.
-use Rattle.std.proofs.Common.{◌≡◌, ◌∙◌, ℕ, ◌+◌, ◌*◌, ◌^◌, ◌<◌, ◌≤◌, max, refl, sym, ap, subst, arith, inl, inr, ◌⊎◌, Bool, true, false, nat_eq, List, [], ◌∷◌, map, take, slice_get, Some, ℤ}
+use Rattle.std.proofs.Common.{◌≡◌, ◌∙◌, ℕ, ◌+◌, ◌*◌, ◌^◌, ◌<◌, ◌≤◌, max, refl, sym, ap, subst, arith, inl, inr, ◌⊎◌, true, nat_eq, List, [], ◌∷◌, slice_get, Some, ℤ}
 use Rattle.std.specs.Prelude.{unsigned_abs}
 use Rattle.std.proofs.Math.Nat.{mul-le-mul_left}
 use Rattle.std.proofs.lemmas.Bool.{cases_lt}
 use Rattle.mr_values.specs.declared.plan.Element.{Element}
-use Rattle.mr_values.specs.Sequence.{Sequence}
 use Rattle.mr_values.specs.Timing.{Group, Fir, DownCic, UpCic, Rounding, taps_of}
 use Rattle.mr_values.specs.Value.{chain}
 use Rattle.net_graph.specs.declared.cell.Stream.{Stream}
@@ -13,7 +12,7 @@ use Rattle.impulse_phase.specs.Response.{AreLinear}
 use Rattle.plan_check.specs.Amounts.{magnitude, gain}
 use Rattle.stage_law.specs.Facts.{StageFacts}
 use Rattle.stage_law.specs.Kinds.{is_linear}
-use Rattle.stage_law.specs.Least.{HasRegisters, IsTimely, named_peak}
+use Rattle.stage_law.specs.Least.{named_peak}
 use Rattle.stage_law.specs.Registers.{NamedPeak, Telling, TellsRanges, bits_of}
 use Rattle.stage_law.specs.Streams.{Streams, AreWithin, HasRoom, magnitudes}
 use Rattle.stage_law.specs.Weights.{weights_of}

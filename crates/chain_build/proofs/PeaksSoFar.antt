@@ -1,9 +1,9 @@
 -- The peaks of the linear registers of the groups that were added so far.
-use Rattle.std.proofs.Common.{◌≡◌, ℕ, ◌+◌, ◌-◌, ◌*◌, ◌<◌, ◌≤◌, Bool, true, false, if◌then◌else◌, List, [], ◌∷◌, ◌++◌, append_assoc, length, map, take, refl, sym, ◌∙◌, ap, subst, arith}
+use Rattle.std.proofs.Common.{◌≡◌, ℕ, ◌+◌, ◌-◌, ◌*◌, Bool, true, false, if◌then◌else◌, List, [], ◌∷◌, ◌++◌, append_assoc, map, take, refl, sym, ◌∙◌, ap, subst, arith}
 use Rattle.mr_values.specs.declared.plan.Element.{Element}
 use Rattle.mr_values.specs.declared.plan.Plan.{Plan}
 use Rattle.mr_values.specs.Timing.{Group, Fir, DownCic, UpCic, Rounding, Stream as Timed, groups, input, after, after_all, last_stream}
-use Rattle.mr_values.specs.Value.{size, chain}
+use Rattle.mr_values.specs.Value.{size}
 use Rattle.net_graph.specs.declared.cell.Cell.{Cell}
 use Rattle.net_graph.specs.declared.cell.Stream.{Stream}
 use Rattle.net_graph.specs.Cells.{NetView}
@@ -15,22 +15,20 @@ use Rattle.plan_check.specs.Groups.{size_of, IsSplit}
 use Rattle.plan_laws.proofs.Passes.{passes_of}
 use Rattle.stage_law.specs.Kinds.{is_linear}
 use Rattle.stage_law.specs.Least.{named_peak}
-use Rattle.stage_law.specs.Registers.{NamedPeak, StageRegister, TellsRanges, peaks_of}
+use Rattle.stage_law.specs.Registers.{TellsRanges, peaks_of}
 use Rattle.stage_law.specs.Streams.{Streams}
-use Rattle.width_extreme.specs.Prefix.{IsStream}
 use Rattle.chain_build.specs.declared.extremes.LinearPeak.{LinearPeak}
 use Rattle.chain_build.specs.declared.groups.Added.{Added}
 use Rattle.chain_build.specs.Added.{IsGroupAdded}
 use Rattle.chain_build.specs.Built.{kind_of, rounds, has_rounding}
-use Rattle.chain_build.specs.Linear.{LinearRegister, linear, linear_from, prefix_range, register_of, group_registers}
-use Rattle.chain_build.specs.LinearOn.{output_registers}
+use Rattle.chain_build.specs.Linear.{LinearRegister, linear, linear_from, prefix_range, group_registers}
 use Rattle.chain_build.specs.Peaks.{AreKept, IsKeptPeak, AddsPeaks, ArePeaksOf, HasGroupPeaks, keeps}
 use Rattle.chain_build.specs.Prefixes.{streams_before, elements_before}
 use Rattle.chain_build.proofs.ExactPrefixes.{prefix-linear, prefix-tells}
 use Rattle.chain_build.proofs.Pace.{pace_all, at_once, extent-pace}
 use Rattle.chain_build.proofs.PeakPlaces.{peaks-of, ArePeaksOf-none, ArePeaksOf-append, ArePeaksOf-later}
 use Rattle.chain_build.proofs.Prefixes.{sizes, sizes-more, sizes-within, after-more, prefixed}
-use Rattle.chain_build.proofs.RegistersSoFar.{coming, coming-none, linear_from-more, linear_from-none, own_registers, stream_at}
+use Rattle.chain_build.proofs.RegistersSoFar.{coming, coming-none, linear_from-more, linear_from-none, own_registers}
 use Rattle.chain_build.proofs.Roundings.{has_rounding-more}
 use Rattle.chain_build.proofs.SoFar.{SoFar, SoFar-all, SoFar-none, balanced, head_walk, is_built_head}
 use Rattle.chain_build.proofs.StepLemmas.{TellsOwn, linear_fir, tells_own}

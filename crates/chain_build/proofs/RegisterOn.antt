@@ -1,22 +1,18 @@
 -- A linear register in a net whose stream carries the samples.
-use Rattle.std.proofs.Common.{◌≡◌, ℕ, ◌+◌, ◌*◌, List, Some, ℤ, pos}
+use Rattle.std.proofs.Common.{ℕ, List, ℤ}
 use Rattle.std.specs.Prelude.{All}
 use Rattle.mr_values.specs.declared.plan.Element.{Element}
-use Rattle.mr_values.specs.Sequence.{samples, filter}
+use Rattle.mr_values.specs.Sequence.{samples}
 use Rattle.mr_values.specs.Value.{chain}
 use Rattle.mr_values.specs.Width.{FitsWidth}
 use Rattle.net_graph.specs.declared.cell.Cell.{Cell}
-use Rattle.net_graph.specs.declared.cell.Node.{Node}
 use Rattle.net_graph.specs.declared.cell.Stream.{Stream}
 use Rattle.net_graph.specs.Cut.{Cut, cut_all, cut_control}
 use Rattle.net_graph.specs.Grow.{Extends}
 use Rattle.net_graph.specs.Run.{Values, IsRun}
 use Rattle.net_graph.proofs.CutLemmas.{IsCut-all, IsCut-control}
 use Rattle.pipeline_balance.specs.Gate.{Carries}
-use Rattle.pipeline_balance.specs.Numbered.{IsRegister}
 use Rattle.pipeline_balance.proofs.NumberedLemmas.{IsRegister-later}
-use Rattle.stage_law.specs.Range.{InClass}
-use Rattle.stage_law.specs.Registers.{HeldSum}
 use Rattle.chain_build.specs.Linear.{LinearRegister}
 use Rattle.chain_build.specs.LinearOn.{IsRegisterOn}
 

@@ -1,10 +1,9 @@
 -- One more group keeps the list of linear registers.
-use Rattle.std.proofs.Common.{◌≡◌, ℕ, ◌+◌, Bool, List, [], ◌∷◌, ◌++◌, length, refl, sym, ◌∙◌, ap, subst}
+use Rattle.std.proofs.Common.{◌≡◌, ℕ, ◌+◌, Bool, List, [], ◌∷◌, ◌++◌, length, sym, ◌∙◌, ap, subst}
 use Rattle.mr_values.specs.declared.plan.Element.{Element}
 use Rattle.mr_values.specs.declared.plan.Plan.{Plan}
-use Rattle.mr_values.specs.Timing.{Group, groups, input, after, after_all, last_stream, Stream as Timed}
+use Rattle.mr_values.specs.Timing.{Group, groups, input, after_all, Stream as Timed}
 use Rattle.mr_values.specs.Value.{size}
-use Rattle.net_graph.specs.declared.cell.Cell.{Cell}
 use Rattle.net_graph.specs.declared.cell.Stream.{Stream}
 use Rattle.net_graph.specs.Cells.{NetView}
 use Rattle.plan_check.specs.declared.facts.GroupFacts.{GroupFacts}

@@ -1,5 +1,5 @@
 -- What is told of the linear registers of a plan for which one bit is too few.
-use Rattle.std.specs.Prelude.{◌≡◌, ℕ, ◌<◌, List, length, Some, slice_get, ℤ}
+use Rattle.std.specs.Prelude.{◌≡◌, ℕ, ◌<◌, List, length, Some, slice_get}
 use Rattle.mr_values.specs.declared.plan.Element.{Element}
 use Rattle.net_graph.specs.declared.cell.Cell.{Cell}
 use Rattle.net_graph.specs.Cells.{cell_at}

@@ -1,11 +1,9 @@
-use Rattle.std.proofs.Common.{◌≡◌, ◌∙◌, ℕ, true, false, Bool, if◌then◌else◌, List, [], ◌∷◌, length, map, take, refl, sym, ap, subst, pos}
+use Rattle.std.proofs.Common.{◌≡◌, ◌∙◌, ℕ, true, Bool, if◌then◌else◌, List, [], ◌∷◌, length, map, refl, sym, ap, subst, pos}
 use Rattle.mr_values.specs.declared.plan.Element.{Element}
-use Rattle.mr_values.specs.Sequence.{Sequence}
 use Rattle.mr_values.specs.Timing.{groups, last_stream}
 use Rattle.mr_values.specs.Value.{chain, size}
 use Rattle.net_graph.specs.declared.name.NameKind.TheVariants.{Output}
 use Rattle.impulse_phase.specs.Reading.{IsResponseOf}
-use Rattle.impulse_phase.specs.Response.{AreLinear}
 use Rattle.pipeline_balance.specs.Numbered.{name_of}
 use Rattle.plan_laws.proofs.Passes.{passes_of}
 use Rattle.stage_law.specs.Least.{named_peak}
@@ -13,9 +11,9 @@ use Rattle.stage_law.specs.declared.ranges.Range.{Range}
 use Rattle.stage_law.specs.declared.stage.Peak.{Peak}
 use Rattle.width_extreme.specs.Walk.{transform_of}
 use Rattle.chain_build.specs.Built.{has_rounding}
-use Rattle.chain_build.specs.Linear.{each_index, output_range, prefix_range}
+use Rattle.chain_build.specs.Linear.{each_index, prefix_range}
 use Rattle.chain_build.specs.Output.{AddsOutputs}
-use Rattle.chain_build.specs.Peaks.{AreWithPlace, AddsKeptOver, AddsPeaks, exact_output, listed_value}
+use Rattle.chain_build.specs.Peaks.{AreWithPlace, AddsKeptOver, exact_output, listed_value}
 use Rattle.chain_build.proofs.ExactPrefixes.{whole-exact, take-whole, unrounded-linear}
 use Rattle.chain_build.proofs.Kept.{adds_peaks}
 use Rattle.chain_build.proofs.OutputPeaks.{listed_output, named_output, places_out}

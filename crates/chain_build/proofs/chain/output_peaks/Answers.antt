@@ -1,7 +1,4 @@
-use Rattle.std.proofs.Common.{◌∙◌, [], List, ap, refl}
-use Rattle.stage_law.specs.Registers.{needs_high}
-use Rattle.stage_law.specs.declared.stage.Peak.{Peak}
-use Rattle.chain_build.specs.Peaks.{AreOutputPeaks}
+use Rattle.std.proofs.Common.{refl}
 use Rattle.chain_build.proofs.OutputPeaks.{output_one, output_none}
 use Rattle.chain_build.proofs.chain.output_peaks.Goals.{then-width-gt1+in_ok-value+in_ok-push, else-width-gt1}
 use Rattle.chain_build.proofs.chain.output_peaks.Goals as goal

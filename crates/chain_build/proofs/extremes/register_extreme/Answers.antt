@@ -1,6 +1,5 @@
-use Rattle.std.proofs.Common.{◌≡◌, ℕ, ◌<◌, List, length, Option, sym, ap, subst, arith}
+use Rattle.std.proofs.Common.{ℕ, List, length, Option, sym, ap, subst, arith}
 use Rattle.std.specs.Prelude.{IfSome, IfNone}
-use Rattle.mr_values.specs.Value.{size}
 use Rattle.chain_build.specs.declared.extremes.LinearPeak.{LinearPeak}
 use Rattle.chain_build.specs.Peaks.{AreInside, IsPeakTo, HasNoneTo}
 use Rattle.chain_build.proofs.NamedPeaks.{inside_of, peak_read, kept_place, register_found, register_none, text_read, to_inside}

@@ -1,4 +1,4 @@
-use Rattle.std.proofs.Common.{◌≡◌, ◌∙◌, true, false, sym, ap, subst, List, take}
+use Rattle.std.proofs.Common.{◌≡◌, ◌∙◌, true, sym, ap, subst, List, take}
 use Rattle.stage_law.specs.Streams.{Streams, HasRoom}
 use Rattle.mr_values.specs.Value.{size}
 use Rattle.plan_check.specs.Amounts.{gain}
@@ -6,10 +6,9 @@ use Rattle.plan_check.specs.Groups.{group_of}
 use Rattle.chain_build.specs.Added.{IsGroupAdded}
 use Rattle.chain_build.proofs.SameStreams.{same_streams, streams_same}
 use Rattle.stage_law.specs.Kinds.{is_linear}
-use Rattle.stage_law.specs.declared.stage.Kind.{Kind}
 use Rattle.stage_law.specs.declared.stage.Peak.{Peak}
 use Rattle.chain_build.specs.Built.{kind_of}
-use Rattle.chain_build.specs.Peaks.{AreWithPlace, AddsPeaks, AddsKeptOver}
+use Rattle.chain_build.specs.Peaks.{AreWithPlace, AddsKeptOver}
 use Rattle.chain_build.proofs.Kept.{adds_peaks, adds_none}
 use Rattle.chain_build.proofs.PeakRoom.{places_of}
 use Rattle.chain_build.proofs.groups.add_exact.Goals.{then-is_linear+in_ok-keep_peaks, else-is_linear}
