@@ -1,6 +1,6 @@
 // What no clause says: with memory at hand, a net is built.
 
-use super::{build, can_build};
+use super::{build, can_build, register_extreme};
 use mr_values::{Element, Elements, Form, Mode, Plan, Taps};
 use net_graph::{NameKind, Netlist, name_text};
 use plan_check::check_plan;
@@ -97,5 +97,39 @@ fn builds_cascades(rt: HostRuntime) -> Result<(), Fail> {
     let facts = check_plan(rt.alloc(), &plan)?;
     let built = build(rt.alloc(), &plan, &facts)?;
     assert_eq!(rt; count_wide(&built.net, 5), 6);
+    Ok(())
+}
+
+#[test]
+fn finds_samples(rt: HostRuntime) -> Result<(), Fail> {
+    let mut taps = Vec::new(rt.alloc());
+    taps.push(1)?;
+    taps.push(-3)?;
+    let mut elements = Vec::new(rt.alloc());
+    elements.push(Element::Filter {
+        taps: Taps::from_vec(taps),
+        form: Form::Parallel,
+    })?;
+    let plan = Plan {
+        width: 4,
+        ticks: 1,
+        elements: Elements::from_vec(elements),
+    };
+    let facts = check_plan(rt.alloc(), &plan)?;
+    assert!(rt; can_build(&plan));
+    match register_extreme(rt.alloc(), &plan, &facts, "out_q")? {
+        Some(found) => {
+            assert_eq!(rt; found.value, 31);
+            assert_eq!(rt; found.tick, 8);
+            assert_eq!(rt; found.samples.as_slice(), [0, 0, 0, -8, 7].as_slice());
+        }
+        None => assert!(rt; false),
+    }
+    let control = register_extreme(rt.alloc(), &plan, &facts, "ctl_0")?;
+    assert!(rt; control.is_none());
+    let other = register_extreme(rt.alloc(), &plan, &facts, "s9_w0")?;
+    assert!(rt; other.is_none());
+    let part = register_extreme(rt.alloc(), &plan, &facts, "s1_w")?;
+    assert!(rt; part.is_none());
     Ok(())
 }
