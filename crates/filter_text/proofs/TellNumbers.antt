@@ -1,5 +1,5 @@
 -- What is told of the net's registers, by the numbers of their names, is told of each linear register of the module.
-use Rattle.std.proofs.Common.{◌≡◌, ℕ, zero, suc, ◌+◌, ◌<◌, ◌≤◌, Bool, true, false, List, [], ◌∷◌, length, Option, None, Some, slice_get, refl, sym, ◌∙◌, ap, subst, arith, ℤ}
+use Rattle.std.proofs.Common.{◌≡◌, ℕ, zero, suc, ◌+◌, ◌<◌, Bool, true, false, List, [], ◌∷◌, length, Option, None, Some, slice_get, refl, sym, ◌∙◌, ap, subst, arith, ℤ}
 use Rattle.std.specs.Prelude.{bytes_eq}
 use Rattle.std.specs.List.{position_or_len}
 use Rattle.std.proofs.lemmas.Option.{slice_get_within}
@@ -23,7 +23,7 @@ use Rattle.chain_build.specs.Linear.{LinearRegister, linear}
 use Rattle.chain_build.specs.LinearNet as net_registers
 use Rattle.chain_build.specs.Told.{TellsRegister, TellsRegisters}
 use Rattle.filter_text.specs.declared.extremes.ExtremeAt.{ExtremeAt}
-use Rattle.filter_text.specs.Extremes.{pair_of, told_at, TellsByNumber, IsWideAt, TellsEach}
+use Rattle.filter_text.specs.Extremes.{pair_of, told_at, TellsByNumber, TellsEach}
 use Rattle.filter_text.specs.Registers.{register_number}
 use Rattle.filter_text.proofs.NodeNames.{name_there, text_number, register_text}
 
