@@ -18,8 +18,8 @@ group 1 parallel adders 1 windows 1 tables 0
 group 2 round adders 1 windows 0 tables 0
 group 3 parallel adders 1 windows 1 tables 0
 group 4 round adders 0 windows 0 tables 0
-register s1_w0 4 tick 1 value 7
-register s1_a0 6 tick 2 value 21
+register s1_w0 4 tick 4 value 7
+register s1_a0 6 tick 5 value 21
 register ctl_0 2
 register s2_a0 5
 register ctl_1 2
