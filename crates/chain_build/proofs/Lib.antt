@@ -32,3 +32,4 @@ pub mod LinearBuilt
 pub mod Counting
 pub mod ShapesSoFar
 pub mod CostsSoFar
+pub mod GroupsSoFar

@@ -190,6 +190,7 @@ module _ {n0 n1 n2 n3 n4 : NetView} {from : Stream} {node out_q out_valid : Node
 
     pub AddsOutputs-named : AddsOutputs low high n0 n5 from (record { out_q = out_q; out_valid = out_valid })
     AddsOutputs-named = record {
+      grows = Grows-trans cut_node.grows (Grows-trans g.grows (Grows-trans t.grows (Grows-trans b.grows named_grows)));
       grown = IsGrown-trans n0.cells n4.cells n5.cells (IsGrown-grows (Grows-trans cut_node.grows (Grows-trans g.grows (Grows-trans t.grows b.grows)))) (IsGrown-grows named_grows);
       width = width;
       least = least;

@@ -3,6 +3,7 @@ pub mod Built
 pub mod ChainNet
 pub mod Extremes
 pub mod GroupCosts
+pub mod Groups
 pub mod Linear
 pub mod LinearNet
 pub mod LinearOn

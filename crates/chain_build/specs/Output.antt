@@ -45,6 +45,7 @@ IsKeptWhole cells from width register =
 -- set exactly at these ticks. No stage's group has more adders, and no group more window registers or tables; what is added may stand in a
 -- linear group.
 pub record AddsOutputs (low high : ℤ) (old new : NetView) (from : Stream) (outputs : Outputs) : Type 0 where
+  pub grows : Grows old new
   pub grown : IsGrown old.cells new.cells
   pub width : ℕ
   pub least : IsLeastWidth low high width

@@ -12,6 +12,7 @@ ghost use Rattle.width_extreme.specs.Prefix.{IsStream};
 ghost use Rattle.chain_build.specs.Built.{are_built, is_built, is_parallel, has_rounding};
 ghost use Rattle.chain_build.specs.ChainNet.{IsChainNet};
 ghost use Rattle.chain_build.specs.GroupCosts.{HasCosts};
+ghost use Rattle.chain_build.specs.Groups.{AreGrouped};
 ghost use Rattle.chain_build.specs.Linear.{linear, output_range};
 ghost use Rattle.chain_build.specs.LinearNet.{HasLinearRegisters};
 ghost use Rattle.chain_build.specs.Output.{AddsOutputs};
@@ -200,6 +201,7 @@ pub(crate) fn build_told(alloc: Global, plan: &Plan, facts: &Facts) -> Result<To
     ensures registers { IfOk result (λ t. HasLinearRegisters (size plan.now.width) (size plan.now.ticks) plan.now.elements t.built.net) }
     ensures costs { IfOk result (λ t. HasCosts (groups plan.now.elements) t.built.costs.items t.built.net) }
     ensures shapes { IfOk result (λ t. HaveLinearItems 1 (groups plan.now.elements) t.built.net) }
+    ensures groups { IfOk result (λ t. AreGrouped (length (groups plan.now.elements)) t.built.net) }
     ensures extremes { IfOk result (λ t. t.built.extremes.items ≡ map as_extreme t.peaks.items) }
     ensures peaks { IfOk result (λ t. ArePeaksOf (size plan.now.width) (size plan.now.ticks) plan.now.elements t.built.net (linear (size plan.now.width) (size plan.now.ticks) plan.now.elements) t.peaks.items) }
 {
@@ -253,6 +255,9 @@ pub fn build(alloc: Global, plan: &Plan, facts: &Facts) -> Result<Built, Memory>
 
     // What the nodes of a linear group compute.
     ensures shapes { IfOk result (λ b. HaveLinearItems 1 (groups plan.now.elements) b.net) }
+
+    // Each node, and each name, is of control or of a group of the plan.
+    ensures groups { IfOk result (λ b. AreGrouped (length (groups plan.now.elements)) b.net) }
 
     // For each linear register that needs more than one bit a value that needs all of its bits, and when some samples drive it there.
     ensures extremes { IfOk result (λ b. TellsRegisters (size plan.now.width) (size plan.now.ticks) plan.now.elements b.net b.extremes.items) }

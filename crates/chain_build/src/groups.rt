@@ -20,6 +20,7 @@ ghost use Rattle.chain_build.specs.Peaks.{AddsPeaks, HasGroupPeaks, keeps};
 ghost use Rattle.chain_build.specs.Prefixes.{IsExactPrefix, CanTake, streams_before, elements_before};
 ghost use Rattle.chain_build.specs.Added.{IsTaking, IsGroupAdded, AreNameless, IsChained};
 ghost use Rattle.chain_build.specs.GroupCosts.{AreUngrouped, AreApart, HasCosts};
+ghost use Rattle.chain_build.specs.Groups.{IsGroupedTo};
 ghost use Rattle.chain_build.specs.Shapes.{HaveLinearItems};
 
 use crate::cascades::{down_group, up_group};
@@ -280,6 +281,7 @@ pub(crate) fn add_groups(
     ensures costs { IfOk result (λ c. AreApart net.new.cells → HasCosts (groups plan.now.elements) c.costs.items net.new.cells) }
     ensures peaks { IfOk result (λ _. HasGroupPeaks (size plan.now.width) (size plan.now.ticks) plan.now.elements net.new.cells peaks.new.items) }
     ensures shapes { IfOk result (λ _. HaveLinearItems 1 (groups plan.now.elements) net.new.cells) }
+    ensures groups { IfOk result (λ _. IsGroupedTo (length (groups plan.now.elements)) net.new) }
 {
     let mut rest = plan.elements.as_slice();
     let mut last = from;

@@ -1,4 +1,4 @@
-use Rattle.std.proofs.Common.{◌∙◌, ◌≤◌, ap, map, subst, sym, List, ℕ}
+use Rattle.std.proofs.Common.{◌∙◌, ◌≤◌, ap, length, map, subst, sym, List, ℕ}
 use Rattle.mr_values.specs.Timing.{groups, last_stream}
 use Rattle.mr_values.specs.Value.{size}
 use Rattle.net_graph.specs.declared.cell.Cell.{Cell}
@@ -14,8 +14,10 @@ use Rattle.net_graph.specs.Cut.{cut_all}
 use Rattle.net_graph.proofs.CutLemmas.{IsCut-all}
 use Rattle.chain_build.specs.LinearNet.{HasLinearRegisters}
 use Rattle.chain_build.specs.LinearOn.{HasGroupRegisters}
+use Rattle.chain_build.specs.Groups.{AreGrouped}
 use Rattle.chain_build.specs.Shapes.{HaveLinearItems}
 use Rattle.chain_build.proofs.ChainLemmas.{empty, built-groups, bound3, chain_net, chain_costs, chain_shapes, over, carried_from, shows}
+use Rattle.chain_build.proofs.GroupsSoFar.{outputs_grouped}
 use Rattle.chain_build.proofs.LinearBuilt.{has_linear}
 use Rattle.plan_laws.proofs.Passes.{passes_of}
 use Rattle.chain_build.proofs.ExactPrefixes.{unrounded-linear}
@@ -62,6 +64,7 @@ returns c =
       chain = subst (λ (cells : List Cell). IsChainNet W T es cells c.in_ok-outputs.outputs.out_q c.in_ok-outputs.outputs.out_valid) (sym c.in-Ok.ensures.ok) (chain_net W T es wide first chained linear outs formed);
       costs = subst (λ (cells : List Cell). HasCosts (groups es) c.in_ok-chained.chained.costs.items cells) (sym c.in-Ok.ensures.ok) (chain_costs W T es wide first chained linear outs formed c.in_ok-chained.ensures.costs);
       shapes = subst (λ (cells : List Cell). HaveLinearItems 1 (groups es) cells) (sym c.in-Ok.ensures.ok) (chain_shapes W T es wide first chained linear outs c.in_ok-chained.ensures.shapes);
+      groups = subst (λ (cells : List Cell). AreGrouped (length (groups es)) cells) (sym c.in-Ok.ensures.ok) (outputs_grouped c.in_ok-chained.ensures.groups outs formed);
       extremes = c.in_ok-extremes.ensures ∙ ap (map as_extreme) c.deref.ensures.value;
       peaks = subst (λ (cells : List Cell). ArePeaksOf W T es cells (linear_list W T es) c.add_chain_outputs.new.peaks.items) (sym c.in-Ok.ensures.ok)
           (all_peaks W T es c.add_groups.new.net.cells _ c.in_ok-chained.chained.stream _ _ linear chained.period chained.offset chained.balance chained.long chained.early outs.grown.extends c.in_ok-chained.ensures.peaks c.in_ok-outputs.ensures.peaks);

@@ -1,10 +1,12 @@
-use Rattle.std.proofs.Common.{sym, ◌∙◌, ap, refl, subst, List, [], ◌∷◌, ◌++◌, get_or, arith, inl, ◌+◌}
+use Rattle.std.proofs.Common.{◌≡◌, inr, sym, ◌∙◌, ap, refl, subst, List, [], ◌∷◌, ◌++◌, get_or, arith, inl, ◌+◌}
 use Rattle.plan_check.specs.declared.facts.GroupFacts.{GroupFacts}
 use Rattle.mr_values.specs.declared.plan.Element.{Element}
 use Rattle.mr_values.specs.Timing.{groups, input}
 use Rattle.mr_values.specs.Value.{size}
 use Rattle.chain_build.specs.declared.groups.GroupCost.{GroupCost}
 use Rattle.chain_build.specs.Built.{has_rounding}
+use Rattle.net_graph.specs.Cells.{NetView}
+use Rattle.chain_build.proofs.GroupsSoFar.{has_group, grouped_end}
 use Rattle.chain_build.proofs.CostsSoFar.{CostsSoFar, CostsSoFar-first, CostsSoFar-next, CostsSoFar-end, shapes-end}
 use Rattle.chain_build.proofs.RegistersSoFar.{RegistersSoFar, RegistersSoFar-start}
 use Rattle.chain_build.proofs.PeaksSoFar.{PeaksSoFar-start, peaks_next, peaks_end}
@@ -25,6 +27,7 @@ loop-fact-init c = (
     PeaksSoFar-start (size c.args.plan.now.width) (size c.args.plan.now.ticks) c.args.plan.now.elements c.set_group.new.self.cells (groups c.as_slice-rest.result.now) c.args.peaks.now.items (ap groups c.as_slice-rest.ensures) c.requires.none,
   ),
   CostsSoFar-first (groups c.args.plan.now.elements) (groups c.as_slice-rest.result.now) c.args.net.now c.set_group.new.self c.new-costs.result.items (ap groups c.as_slice-rest.ensures) c.set_group.ensures c.new-costs.ensures.items c.requires.bound c.requires.ungrouped c.requires.nameless,
+  record { own = inr refl },
 )
 
 pub unreachable-requires : goal.unreachable-requires
@@ -51,9 +54,20 @@ loop-fact-preserved c =
       ),
       subst (λ (costs : List GroupCost). CostsSoFar (groups c.args.plan.now.elements) c.add_next.new.net.cells (groups c.in-Some.others.now) costs (c.loop-fact.number + 1)) (sym c.in_ok-push.ensures.items)
           (CostsSoFar-next c.loop-fact.invariant.1 c.in-Some.ensures.parts (λ name data_kind more. c.loop-fact.invariant.0.1.names name data_kind (inl more)) c.set_group-in-loop-fact.new.self _ c.loop-fact.last c.in_ok-added.added c.set_group-in-loop-fact.ensures c.in_ok-added.ensures.ok),
+      record {
+        own = let own : c.add_next.new.net.group ≡ c.loop-fact.number = c.in_ok-added.ensures.same_group ∙ ap (λ (n : NetView). n.group) c.set_group-in-loop-fact.ensures in inl (omega (arith, own));
+      },
     )
 
 pub returns : goal.returns
 returns c =
     let so = so_all c.args.facts.now.groups.items c.loop-fact.fact-index c.loop-fact.invariant.0.1 (omega (arith, c.deref-fact-items.ensures.len)) in
-    record { ok = SoFar-end so; rounded = c.loop-fact.invariant.0.2 ∙ ap has_rounding (sym (SoFar-all so)); registers = registers_end so c.loop-fact.invariant.0.3; costs = CostsSoFar-end c.loop-fact.invariant.1 (SoFar-none so); peaks = peaks_end so c.loop-fact.invariant.0.4; shapes = shapes-end c.loop-fact.invariant.1 (SoFar-none so) }
+    record {
+      ok = SoFar-end so;
+      rounded = c.loop-fact.invariant.0.2 ∙ ap has_rounding (sym (SoFar-all so));
+      registers = registers_end so c.loop-fact.invariant.0.3;
+      costs = CostsSoFar-end c.loop-fact.invariant.1 (SoFar-none so);
+      peaks = peaks_end so c.loop-fact.invariant.0.4;
+      shapes = shapes-end c.loop-fact.invariant.1 (SoFar-none so);
+      groups = grouped_end c.loop-fact.invariant.1 (SoFar-none so) (λ name data_kind more. so.names name data_kind (inl more)) c.loop-fact.invariant.2 (has_group c.args.plan.now c.requires.accepted);
+    }

@@ -6,6 +6,7 @@ use Rattle.chain_build.specs.Built.{has_rounding}
 use Rattle.chain_build.proofs.RegistersSoFar.{RegistersSoFar}
 use Rattle.chain_build.proofs.PeaksSoFar.{PeaksSoFar}
 use Rattle.chain_build.proofs.CostsSoFar.{CostsSoFar}
+use Rattle.chain_build.proofs.GroupsSoFar.{IsLastGroup}
 use Rattle.chain_build.proofs.groups.add_groups.Given as goal
 
 -- the groups before are added, and those that are left pass the tests
@@ -15,3 +16,4 @@ invariant-loop-fact l =
     × RegistersSoFar (size l.plan.width) (size l.plan.ticks) l.plan.elements l.net.cells l.fn.from front (groups l.rest) (after_all front (input (size l.plan.width) (size l.plan.ticks))) l.number
     × PeaksSoFar (size l.plan.width) (size l.plan.ticks) l.plan.elements l.net.cells front (groups l.rest) (after_all front (input (size l.plan.width) (size l.plan.ticks))) l.number l.peaks.items)
     × CostsSoFar (groups l.plan.elements) l.net.cells (groups l.rest) l.costs.items l.number
+    × IsLastGroup l.net l.number
