@@ -1,0 +1,4 @@
+pub mod Names
+pub mod Control
+pub mod Ports
+pub mod Outputs
