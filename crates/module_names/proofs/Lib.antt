@@ -1,0 +1,7 @@
+mod Places
+mod NodeNames
+mod OutputName
+mod Names
+mod Control
+mod Ports
+mod Outputs
