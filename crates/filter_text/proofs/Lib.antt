@@ -10,6 +10,7 @@ pub mod UncutOutput
 pub mod DepthText
 pub mod CountedText
 pub mod ShapesText
+pub mod NamesText
 pub mod NodeNames
 pub mod RegisterNumbers
 pub mod RegisterGroups

@@ -22,6 +22,10 @@ use Rattle.chain_build.specs.Built.{ArePlainGroups, kind_of}
 use Rattle.chain_build.specs.Linear.{output_range}
 use Rattle.stage_law.specs.Facts.{StageFacts}
 use Rattle.stage_law.specs.Kinds.{has_linear_shape}
+use Rattle.module_names.specs.Control.{HasControl}
+use Rattle.module_names.specs.Names.{HasNames}
+use Rattle.module_names.specs.Outputs.{HasPlainOutputs}
+use Rattle.module_names.specs.Ports.{HasPorts}
 use Rattle.module_shapes.specs.Shapes.{HasLinearShapes}
 
 -- output n stands at the tick latency + n * period: so many outputs from one on, each with its tick
@@ -87,7 +91,9 @@ HaveShapes number (g ∷ gs) d = (has_linear_shape (kind_of g) ≡ true → HasL
 -- The module passes every check, from any content it runs over any cycles, cut and uncut, its output has the least width for the range
 -- of the chain's values, and it shows the chain. Its linear registers are those of the plan, none of them ever cut after a reset and each
 -- of the least width. Its groups cost what they cost as stages, with at most one adder between two registers, and their statements have
--- the shapes of their forms; where no group rounds, its output register is never cut.
+-- the shapes of their forms; where no group rounds, its output register is never cut. Its ports that carry numbers are signed, as wide as a
+-- sample and as the output register. Its names are those of ports, of the output register, of control and of the plan's groups; control
+-- has one value at each tick in all runs, and the outputs cost no adder.
 pub record IsModuleOf (elements : List Element) (width ticks latency period : ℕ) (design : Design) : Type 0 where
   pub passes : Passes design
   pub runs : HasRuns design
@@ -99,6 +105,10 @@ pub record IsModuleOf (elements : List Element) (width ticks latency period : �
   pub least : AreLeastRegisters elements width ticks design
   pub costs : AreCounted 1 (groups elements) design
   pub shapes : HaveShapes 1 (groups elements) design
+  pub ports : HasPorts width design
+  pub names : HasNames (length (groups elements)) design
+  pub control : HasControl design
+  pub plain_outputs : HasPlainOutputs design
 
 -- the bytes read as one module, which is that of the chain
 pub record IsTextOf (elements : List Element) (width ticks latency period : ℕ) (bytes : List ℕ) : Type 0 where

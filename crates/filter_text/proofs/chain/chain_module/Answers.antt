@@ -27,6 +27,7 @@ use Rattle.filter_text.proofs.CountedText.{chain_counted, chain_costs}
 use Rattle.filter_text.proofs.RegistersText.{registers_text}
 use Rattle.filter_text.proofs.LeastText.{least_text}
 use Rattle.filter_text.proofs.ShapesText.{chain_shaped}
+use Rattle.filter_text.proofs.NamesText.{chain_ports, chain_names, chain_control, chain_outputs_plain}
 use Rattle.filter_text.proofs.TellExtremes.{tells_extremes}
 use Rattle.filter_text.proofs.TellNumbers.{has_extremes, told_within, tells_each}
 use Rattle.filter_text.proofs.ReadModules.{passing, running, output_width}
@@ -84,6 +85,10 @@ returns c =
             least = least_text some d registers (has_extremes told);
             costs = chain_counted es c.in_ok-built.built.costs.items cells few net.netlist small has d as_written;
             shapes = chain_shaped es cells few net.netlist small has.no_tables c.in_ok-built.ensures.shapes d as_written;
+            ports = chain_ports net can d as_written;
+            names = chain_names net can d as_written c.in_ok-built.ensures.groups;
+            control = chain_control net can d as_written;
+            plain_outputs = chain_outputs_plain net can d as_written;
           };
       writable = subst (λ (d : Design). IsWritable limits d) (sym is) (has_text cells net.netlist can small);
       in_order = subst (λ (d : Design). IsInOrder d) (sym is) (in_order cells net.netlist can);
