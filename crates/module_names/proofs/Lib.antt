@@ -1,7 +1,7 @@
-mod Places
+pub mod Places
 mod NodeNames
 mod OutputName
-mod Names
-mod Control
-mod Ports
-mod Outputs
+pub mod Names
+pub mod Control
+pub mod Ports
+pub mod Outputs
