@@ -1,5 +1,5 @@
 -- The peaks of all linear registers of a plan, and what is told of them.
-use Rattle.std.proofs.Common.{◌≡◌, ◌∙◌, ℕ, ◌*◌, ◌^◌, ◌<◌, Bool, true, false, if◌then◌else◌, refl, sym, ap, subst, arith, List, [], ◌∷◌, ◌++◌, append-nil, length, map, take}
+use Rattle.std.proofs.Common.{◌≡◌, ◌∙◌, ℕ, ◌*◌, ◌^◌, ◌<◌, Bool, true, false, if◌then◌else◌, refl, sym, ap, subst, arith, List, [], ◌∷◌, ◌++◌, append-nil, length, map, take, pos}
 use Rattle.std.proofs.lemmas.List.{take_all}
 use Rattle.std.proofs.lemmas.Option.{slice_get-map}
 use Rattle.std.specs.Option.{option_map}
@@ -14,13 +14,15 @@ use Rattle.stage_law.specs.Registers.{peaks_of}
 use Rattle.chain_build.specs.declared.extremes.LinearPeak.{LinearPeak}
 use Rattle.chain_build.specs.declared.extremes.RegisterExtreme.{RegisterExtreme}
 use Rattle.chain_build.specs.Built.{has_rounding}
-use Rattle.chain_build.specs.Linear.{LinearRegister, linear, output_register, prefix_range, register_of}
+use Rattle.chain_build.specs.Linear.{LinearRegister, each_index, linear, output_register, prefix_range, register_of}
 use Rattle.chain_build.specs.Peaks.{AreKept, IsKeptPeak, AddsChainPeak, AddsOutputPeak, ArePeaksOf, HasGroupPeaks, as_extreme}
+use Rattle.chain_build.specs.Soon.{ReadsFew}
 use Rattle.chain_build.specs.Told.{TellsRegister, TellsRegisters}
 use Rattle.chain_build.proofs.PeakPlaces.{peaks-of, ArePeaksOf-append, ArePeaksOf-later}
+use Rattle.chain_build.proofs.SoonRead.{output-reads}
 use Rattle.chain_build.proofs.StepLemmas.{mapped}
 
-module _ (width ticks : ℕ) (elements : List Element) (mid new : List Cell) (stream : Stream) (before after : List LinearPeak) (linear_is : has_rounding (groups elements) ≡ false → AreLinear elements) (period : stream.period ≡ (last_stream width ticks elements).period)
+module _ (width ticks : ℕ) (elements : List Element) (mid new : List Cell) (stream : Stream) (before after : List LinearPeak) (linear_is : has_rounding (groups elements) ≡ false → AreLinear elements) (reads_is : has_rounding (groups elements) ≡ false → ReadsFew elements (pos 1 ∷ []) each_index) (period : stream.period ≡ (last_stream width ticks elements).period)
     (offset : stream.offset ≡ (last_stream width ticks elements).offset) (balance : stream.period * (extent elements).up ≡ ticks * (extent elements).down) (long : stream.period < 2 ^ 31) (early : stream.offset < 2 ^ 31) (extends : Extends mid new)
     (own : HasGroupPeaks width ticks elements mid before) (adds : AddsChainPeak (has_rounding (groups elements)) width elements new stream before after) where
   of_output : has_rounding (groups elements) ≡ false → (o : AddsOutputPeak width elements new stream (length elements) before after)
@@ -31,7 +33,8 @@ module _ (width ticks : ℕ) (elements : List Element) (mid new : List Cell) (st
       (peaks-of width ticks elements (length elements) (last_stream width ticks elements).period (last_stream width ticks elements).offset stream (omega arith) (subst AreLinear (sym whole) (linear_is none)) (sym period) (sym offset)
       (subst (λ (es : List Element). stream.period * (extent es).up ≡ ticks * (extent es).down) (sym whole) balance) long early new 0 (output_register ∷ []) o.peaks o.adds.own
       (o.are ∙ ap (λ (es : List Element). peaks_of (prefix_range width es) 0 (output_register ∷ [])) (sym whole))
-      (subst (λ (es : List Element). AreKept (IsKeptPeak width es stream (length elements)) o.peaks o.adds.own) (sym whole) (o.adds.each refl)))
+      (subst (λ (es : List Element). AreKept (IsKeptPeak width es stream (length elements)) o.peaks o.adds.own) (sym whole) (o.adds.each refl))
+      (λ i r s there needed. output-reads (prefix_range width (take (length elements) elements)) (take (length elements) elements) i r s (subst (λ (es : List Element). ReadsFew es (pos 1 ∷ []) each_index) (sym whole) (reads_is none)) there needed))
 
   later : ArePeaksOf width ticks elements new own.listed before
   later = ArePeaksOf-later extends own.are

@@ -18,7 +18,11 @@ pub mod RegisterLemmas
 pub mod RegistersSoFar
 pub mod StepLemmas
 pub mod StepAt
+pub mod SampleBounds
+pub mod Measures
+pub mod CostLimits
 pub mod PeakLists
+pub mod SoonRead
 pub mod Kept
 pub mod PeakRoom
 pub mod OutputPeaks

@@ -13,7 +13,7 @@ use Rattle.chain_build.specs.declared.extremes.LinearPeak.{LinearPeak}
 use Rattle.chain_build.specs.declared.extremes.RegisterSamples.{RegisterSamples}
 use Rattle.chain_build.specs.Linear.{LinearRegister, linear}
 use Rattle.chain_build.specs.LinearNet.{HasLinearRegisters}
-use Rattle.chain_build.specs.Peaks.{ArePeaksOf, AreInside, HasNoneTo, HasText, IsPeakTo, IsDriven, IsKeptPlace, IsOneOf}
+use Rattle.chain_build.specs.Peaks.{ArePeaksOf, AreInside, HasNoneTo, HasText, IsSmallNamed, IsPeakTo, IsDriven, IsKeptPlace, IsOneOf}
 use Rattle.chain_build.specs.Told.{IsRegisterExtreme, HasNoRegister}
 use Rattle.chain_build.proofs.PeakPlaces.{extreme-input}
 
@@ -23,8 +23,8 @@ inside_of cells peaks are = record { each = λ j kept there. (are.only j kept th
 pub inside_read : (cells : List Cell) (peaks : List LinearPeak) (i : ℕ) (kept : LinearPeak) → AreInside cells peaks → i < length peaks → kept ≡ get_or peaks i kept → kept.peak.register.place < length cells
 inside_read cells peaks i kept h below is = h.each i kept (slice_get_read peaks (length peaks) i kept refl below is)
 
-pub peak_to : (cells : List Cell) (peaks : List LinearPeak) (i place : ℕ) (text : List ℕ) (kept : LinearPeak) → place ≡ i → i < length peaks → kept ≡ get_or peaks i kept → HasText cells kept.peak.register.place text → IsPeakTo cells peaks place text
-peak_to cells peaks i place text kept at below is has = record { kept = kept; there = ap (slice_get peaks) at ∙ slice_get_read peaks (length peaks) i kept refl below is; has = has }
+pub peak_to : (cells : List Cell) (peaks : List LinearPeak) (i place : ℕ) (text : List ℕ) (kept : LinearPeak) → place ≡ i → i < length peaks → kept ≡ get_or peaks i kept → HasText cells kept.peak.register.place text → IsSmallNamed cells kept.peak.register.place → IsPeakTo cells peaks place text
+peak_to cells peaks i place text kept at below is has small = record { kept = kept; there = ap (slice_get peaks) at ∙ slice_get_read peaks (length peaks) i kept refl below is; has = has; small = small }
 
 pub none_all : (cells : List Cell) (peaks : List LinearPeak) (i : ℕ) (text : List ℕ) → HasNoneTo cells peaks i text → length peaks ≤ i → HasNoneTo cells peaks (length peaks) text
 none_all cells peaks i text h past = record { none = λ j kept less there has. h.none j kept (omega (arith, less, past)) there has }
@@ -52,16 +52,17 @@ peak_read peaks i kept are below is = are.only i kept (slice_get_read peaks (len
 pub kept_place : {width ticks : ℕ} {elements : List Element} {cells : List Cell} {kept : LinearPeak} → IsOneOf width ticks elements cells (linear width ticks elements) kept → IsKeptPlace width elements kept
 kept_place one = let p = one.is.place in record { within = p.within; linear = p.linear; long = p.long; early = p.early; below = p.below; room = p.room }
 
-pub register_found : {width ticks : ℕ} {elements : List Element} {cells : List Cell} {kept : LinearPeak} {text : List ℕ} {x : RegisterSamples} → IsOneOf width ticks elements cells (linear width ticks elements) kept → HasText cells kept.peak.register.place text
+pub register_found : {width ticks : ℕ} {elements : List Element} {cells : List Cell} {kept : LinearPeak} {text : List ℕ} {x : RegisterSamples} → IsOneOf width ticks elements cells (linear width ticks elements) kept → HasText cells kept.peak.register.place text × IsSmallNamed cells kept.peak.register.place
     → IsDriven width (take kept.taken elements) kept x.samples.items x.tick x.value → IsRegisterExtreme width ticks elements text x
 register_found {width} {ticks} {elements} {cells} {kept} {text} {x} one has d = record {
   r = one.r;
   s = one.s;
   wide = record { place = one.place; there = one.there; needed = one.needed };
   named =
-      let both : Some one.r.name ≡ Some has.name = sym one.is.named ∙ has.is_named in
-      let same : one.r.name ≡ has.name = cc in
-      ap written_name same ∙ has.written;
+      let both : Some one.r.name ≡ Some has.0.name = sym one.is.named ∙ has.0.is_named in
+      let same : one.r.name ≡ has.0.name = cc in
+      ap written_name same ∙ has.0.written;
+  small = has.1.each one.r.name one.is.named;
   input = extreme-input one.is.place x.samples.items d.index x.tick x.value d.reached d.is_tick;
 }
 
@@ -83,12 +84,14 @@ register_none {width} {ticks} {elements} {cells} {peaks} {text} count net has ar
       h.none f.place f.kept (omega (arith, inside, past)) f.there (record { name = r.name; is_named = f.is.named; shown = no_shown net has wide.place r wide.there; written = named });
 }
 
-pub text_read : (cells : List Cell) (peaks : List LinearPeak) (place : ℕ) (text : List ℕ) (kept : LinearPeak) → IsPeakTo cells peaks place text → kept ≡ get_or peaks place kept → HasText cells kept.peak.register.place text
+pub text_read : (cells : List Cell) (peaks : List LinearPeak) (place : ℕ) (text : List ℕ) (kept : LinearPeak) → IsPeakTo cells peaks place text → kept ≡ get_or peaks place kept → HasText cells kept.peak.register.place text × IsSmallNamed cells kept.peak.register.place
 text_read cells peaks place text kept to is =
     let inside = slice_get_within peaks place to.kept to.there in
     let both : Some to.kept ≡ Some kept = sym to.there ∙ slice_get_read peaks (length peaks) place kept refl inside is in
-    let same : to.kept ≡ kept = cc in
-    subst (λ (k : LinearPeak). HasText cells k.peak.register.place text) same to.has
+    let same : to.kept ≡ kept = cc in (
+      subst (λ (k : LinearPeak). HasText cells k.peak.register.place text) same to.has,
+      subst (λ (k : LinearPeak). IsSmallNamed cells k.peak.register.place) same to.small,
+    )
 
 pub to_inside : (cells : List Cell) (peaks : List LinearPeak) (place : ℕ) (text : List ℕ) → IsPeakTo cells peaks place text → place < length peaks
 to_inside cells peaks place text to = slice_get_within peaks place to.kept to.there

@@ -23,6 +23,7 @@ use Rattle.chain_build.specs.declared.extremes.LinearPeak.{LinearPeak}
 use Rattle.chain_build.specs.Extremes.{IsExtremeInput}
 use Rattle.chain_build.specs.Linear.{LinearRegister, PrefixStream, prefix_range, register_of}
 use Rattle.chain_build.specs.Peaks.{AreKept, IsEndBy, HasSumRoom, IsKeptPeak, IsPlaceOf, IsPeakOf, ArePeaksOf}
+use Rattle.chain_build.specs.Soon.{ReadsFew}
 use Rattle.chain_build.proofs.Bits.{end-over}
 use Rattle.chain_build.proofs.Pace.{read-early}
 use Rattle.chain_build.proofs.PeakLists.{needed_of, needed-more, peak_for, listed-each, listed-only, kept-each, kept-only, named-there}
@@ -80,9 +81,9 @@ mapped_there f (q ∷ rs) (suc i) r is = mapped_there f rs i r is
 
 module _ (width ticks : ℕ) (whole : List Element) (taken period offset : ℕ) (from : Stream) (within : taken ≤ length whole) (linear : AreLinear (take taken whole)) (period_is : period ≡ from.period) (offset_is : offset ≡ from.offset)
     (balance : from.period * (extent (take taken whole)).up ≡ ticks * (extent (take taken whole)).down) (long : from.period < 2 ^ 31) (early : from.offset < 2 ^ 31) where
-  place-of : (group : ℕ) (r : StageRegister) (s : HeldSum) → needed_of (prefix_range width (take taken whole)) r ≡ Some s → s.class.residue < s.class.modulus → HasSumRoom width (take taken whole) s.form
+  place-of : (group : ℕ) (r : StageRegister) (s : HeldSum) → needed_of (prefix_range width (take taken whole)) r ≡ Some s → s.class.residue < s.class.modulus → HasSumRoom width (take taken whole) s.form → ReadsFew (take taken whole) s.form s.class
       → IsPlaceOf width ticks whole (register_of width group (stream_over whole taken period offset) r) s taken from s.form s.class s.lag (needs_high (prefix_range width (take taken whole) s.form s.class) (bits_of (prefix_range width (take taken whole)) r.sums))
-  place-of group r s needed below room =
+  place-of group r s needed below room reads =
       let more = needed-more (prefix_range width (take taken whole)) r s needed in
       record {
         within = within;
@@ -101,11 +102,12 @@ module _ (width ticks : ℕ) (whole : List Element) (taken period offset : ℕ) 
         high_is = refl;
         below = below;
         room = room;
+        reads = reads;
       }
 
   peak-of : (cells : List Cell) (group : ℕ) (r : StageRegister) (s : HeldSum) (peak : Peak) (kept : LinearPeak) → needed_of (prefix_range width (take taken whole)) r ≡ Some s → peak_for (prefix_range width (take taken whole)) group r s ≡ named_peak cells peak
-      → IsKeptPeak width (take taken whole) from taken peak kept → IsPeakOf width ticks whole cells (register_of width group (stream_over whole taken period offset) r) s kept
-  peak-of cells group r s peak kept needed named e =
+      → IsKeptPeak width (take taken whole) from taken peak kept → ReadsFew (take taken whole) s.form s.class → IsPeakOf width ticks whole cells (register_of width group (stream_over whole taken period offset) r) s kept
+  peak-of cells group r s peak kept needed named e reads =
       let own = register_of width group (stream_over whole taken period offset) r in
       let form : s.form ≡ weights_of peak.sum = ap (λ (p : NamedPeak). p.sum.form) named in
       let class : s.class ≡ peak.class = ap (λ (p : NamedPeak). p.sum.class) named in
@@ -113,7 +115,7 @@ module _ (width ticks : ℕ) (whole : List Element) (taken period offset : ℕ) 
       let high : needs_high (prefix_range width (take taken whole) s.form s.class) (bits_of (prefix_range width (take taken whole)) r.sums) ≡ peak.high = ap (λ (p : NamedPeak). p.high) named in
       let below : s.class.residue < s.class.modulus = subst (λ (c : Class). c.residue < c.modulus) (sym class) e.below in
       let room : HasSumRoom width (take taken whole) s.form = subst (λ (f : List ℤ). HasSumRoom width (take taken whole) f) (sym form) e.room in
-      let first = place-of group r s needed below room in
+      let first = place-of group r s needed below room reads in
       let place = moved width ticks whole own s s.form (weights_of peak.sum) s.class peak.class s.lag peak.lag _ peak.high taken taken from from first form class lag high refl refl in
       let name : (cell_at cells peak.register.place).name ≡ Some own.name = sym (ap (λ (p : NamedPeak). p.name) named) in
       let here : (cell_at cells kept.peak.register.place).name ≡ Some own.name = ap (λ (n : Node). (cell_at cells n.place).name) e.same.register ∙ name in
@@ -126,8 +128,10 @@ module _ (width ticks : ℕ) (whole : List Element) (taken period offset : ℕ) 
 
   -- the peaks of a list of a stage's registers
   pub peaks-of : (cells : List Cell) (group : ℕ) (registers : List StageRegister) (given : List Peak) (own : List LinearPeak) → map (named_peak cells) given ≡ peaks_of (prefix_range width (take taken whole)) group registers
-      → AreKept (IsKeptPeak width (take taken whole) from taken) given own → ArePeaksOf width ticks whole cells (map (register_of width group (stream_over whole taken period offset)) registers) own
-  peaks-of cells group registers given own told kept = record {
+      → AreKept (IsKeptPeak width (take taken whole) from taken) given own
+      → ((i : ℕ) (r : StageRegister) (s : HeldSum) → slice_get registers i ≡ Some r → needed_of (prefix_range width (take taken whole)) r ≡ Some s → ReadsFew (take taken whole) s.form s.class)
+      → ArePeaksOf width ticks whole cells (map (register_of width group (stream_over whole taken period offset)) registers) own
+  peaks-of cells group registers given own told kept reads = record {
     each = λ i r s there needed.
         let m = mapped (register_of width group (stream_over whole taken period offset)) registers i r there in
         let needs : needed_of (prefix_range width (take taken whole)) m.from ≡ Some s = ap (λ (q : LinearRegister). q.needed) m.is ∙ needed in
@@ -138,7 +142,7 @@ module _ (width ticks : ℕ) (whole : List Element) (taken period offset : ℕ) 
           place = l.place;
           kept = k.own;
           there = k.there;
-          is = subst (λ (q : LinearRegister). IsPeakOf width ticks whole cells q s k.own) m.is (peak-of cells group m.from s p.from k.own needs (sym p.is) k.holds);
+          is = subst (λ (q : LinearRegister). IsPeakOf width ticks whole cells q s k.own) m.is (peak-of cells group m.from s p.from k.own needs (sym p.is) k.holds (reads i m.from s m.there needs));
         };
     only = λ j k there.
         let p = kept-only (IsKeptPeak width (take taken whole) from taken) given own j k kept there in
@@ -149,7 +153,7 @@ module _ (width ticks : ℕ) (whole : List Element) (taken period offset : ℕ) 
           s = l.s;
           there = mapped_there (register_of width group (stream_over whole taken period offset)) registers l.place l.r l.there;
           needed = l.needed;
-          is = peak-of cells group l.r l.s p.peak k l.needed l.is p.holds;
+          is = peak-of cells group l.r l.s p.peak k l.needed l.is p.holds (reads l.place l.r l.s l.there l.needed);
         };
   }
 

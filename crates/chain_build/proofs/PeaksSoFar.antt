@@ -1,5 +1,5 @@
 -- The peaks of the linear registers of the groups that were added so far.
-use Rattle.std.proofs.Common.{◌≡◌, ℕ, ◌+◌, ◌-◌, ◌*◌, Bool, true, false, if◌then◌else◌, List, [], ◌∷◌, ◌++◌, append_assoc, map, take, refl, sym, ◌∙◌, ap, subst, arith}
+use Rattle.std.proofs.Common.{◌≡◌, ℕ, ◌+◌, ◌-◌, ◌*◌, Bool, true, false, if◌then◌else◌, List, [], ◌∷◌, ◌++◌, append_assoc, map, take, nat_eq, slice_get, refl, sym, ◌∙◌, ap, subst, arith}
 use Rattle.mr_values.specs.declared.plan.Element.{Element}
 use Rattle.mr_values.specs.declared.plan.Plan.{Plan}
 use Rattle.mr_values.specs.Timing.{Group, Fir, DownCic, UpCic, Rounding, Stream as Timed, groups, input, after, after_all, last_stream}
@@ -15,7 +15,7 @@ use Rattle.plan_check.specs.Groups.{size_of, IsSplit}
 use Rattle.plan_laws.proofs.Passes.{passes_of}
 use Rattle.stage_law.specs.Kinds.{is_linear}
 use Rattle.stage_law.specs.Least.{named_peak}
-use Rattle.stage_law.specs.Registers.{TellsRanges, peaks_of}
+use Rattle.stage_law.specs.Registers.{StageRegister, TellsRanges, bits_of, peaks_of}
 use Rattle.stage_law.specs.Streams.{Streams}
 use Rattle.chain_build.specs.declared.extremes.LinearPeak.{LinearPeak}
 use Rattle.chain_build.specs.declared.groups.Added.{Added}
@@ -28,9 +28,11 @@ use Rattle.chain_build.proofs.ExactPrefixes.{prefix-linear, prefix-tells}
 use Rattle.chain_build.proofs.Pace.{pace_all, at_once, extent-pace}
 use Rattle.chain_build.proofs.PeakPlaces.{peaks-of, ArePeaksOf-none, ArePeaksOf-append, ArePeaksOf-later}
 use Rattle.chain_build.proofs.Prefixes.{sizes, sizes-more, sizes-within, after-more, prefixed}
+use Rattle.chain_build.proofs.RegisterLemmas.{needed-member}
 use Rattle.chain_build.proofs.RegistersSoFar.{coming, coming-none, linear_from-more, linear_from-none, own_registers}
 use Rattle.chain_build.proofs.Roundings.{has_rounding-more}
 use Rattle.chain_build.proofs.SoFar.{SoFar, SoFar-all, SoFar-none, balanced, head_walk, is_built_head}
+use Rattle.chain_build.proofs.SoonRead.{group-every, reads-group}
 use Rattle.chain_build.proofs.StepLemmas.{TellsOwn, linear_fir, tells_own}
 use Rattle.chain_build.proofs.Taking.{exact_streams, taken-is}
 
@@ -145,6 +147,11 @@ module _ {plan : Plan} {old net mid new : NetView} {from last : Stream} {rest : 
       let pace : last.period * (extent at_front).up ≡ size plan.ticks * (extent at_front).down =
       balanced (size plan.ticks) last.period front (extent at_front) so.period so.balance (extent-pace at_front ∙ ap (λ (gs : List Group). pace_all gs at_once) (prefixed plan.elements front (groups rest) so.parts)) in
       peaks-of W (size plan.ticks) plan.elements (sizes front) so.stream.period so.stream.offset last (sizes-within plan.elements front (groups rest) so.parts) own_linear (sym so.period) (sym so.offset) pace (omega (arith, long, period)) (omega (arith, early, offset)) new.cells number (group_registers g so.stream.period) added.emitted.peaks.items peaks.own told each
+      (λ i r s there needed.
+      let m = needed-member (prefix_range W at_front) r.sums s (nat_eq (bits_of (prefix_range W at_front) r.sums) 1) needed in
+      let timely = registers.timely i m.place r s (ap (λ (rs : List StageRegister). slice_get rs i) list ∙ there) m.there in
+      reads-group plan at_front front accepted none own_linear (prefixed plan.elements front (groups rest) so.parts) g (groups others) (so.parts ∙ ap (λ (gs : List Group). front ++ gs) split.parts) adds.facts adds.has_facts linear s.form s.class
+      (group-every g so.stream.period i r there m.place s m.there) timely.short)
 
   own_are : (b : Bool) → has_rounding front ≡ b → (h : Group) → g ≡ h → ArePeaksOf W (size plan.ticks) plan.elements new.cells (added_registers (has_rounding front) W plan.elements number (sizes front) so.stream g) peaks.own
   own_are true is h same = unkept (ap (λ (b : Bool). keeps b g) (rounded_is ∙ is)) (ap (λ (b : Bool). added_registers b W plan.elements number (sizes front) so.stream g) is)

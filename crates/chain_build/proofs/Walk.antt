@@ -24,7 +24,7 @@ pub record HasRate (g : Group) (period : ℕ) : Type 0 where
   pub whole : period * down_factor g % up_factor g ≡ 0
   pub most : period_after g period ≤ 2 ^ 31 - 1
 
-rate_passes : (first period : ℕ) (g : Group) → rate_test first period g ≡ None → HasRate g period
+pub rate_passes : (first period : ℕ) (g : Group) → rate_test first period g ≡ None → HasRate g period
 rate_passes first period g e = record { whole = whole_part; most = grind arith }
   where
     whole_part : period * down_factor g % up_factor g ≡ 0

@@ -10,5 +10,6 @@ pub mod LinearOn
 pub mod Output
 pub mod Peaks
 pub mod Prefixes
+pub mod Soon
 pub mod Told
 pub mod Shapes

@@ -34,6 +34,7 @@ use Rattle.chain_build.specs.Built.{kind_of}
 use Rattle.chain_build.specs.Extremes.{IsReached}
 use Rattle.chain_build.specs.Linear.{LinearRegister, each_index, linear, output_register, prefix_range}
 use Rattle.chain_build.specs.LinearOn.{output_registers}
+use Rattle.chain_build.specs.Soon.{ReadsFew}
 
 -- ---- what is kept of a peak
 
@@ -155,6 +156,7 @@ pub record IsPlaceOf (width ticks : ℕ) (whole : List Element) (r : LinearRegis
   pub high_is : high ≡ needs_high (prefix_range width (take taken whole) form class) r.width
   pub below : class.residue < class.modulus
   pub room : HasSumRoom width (take taken whole) form
+  pub reads : ReadsFew (take taken whole) form class
 
 -- the node of the peak is the register, and some samples reach the value
 pub record IsPeakOf (width ticks : ℕ) (whole : List Element) (cells : List Cell) (r : LinearRegister) (s : HeldSum) (kept : LinearPeak) : Type 0 where
@@ -202,15 +204,20 @@ pub record HasText (cells : List Cell) (place : ℕ) (text : List ℕ) : Type 0 
   pub shown : name.kind ≡ Valid → ⊥
   pub written : written_name name ≡ text
 
+-- the numbers of the node's name have at most 64 bits
+pub record IsSmallNamed (cells : List Cell) (place : ℕ) : Type 0 where
+  pub each : (name : Name) → (cell_at cells place).name ≡ Some name → (name.group < 2 ^ 64) × (name.number < 2 ^ 64)
+
 -- each peak's register is a node of the net
 pub record AreInside (cells : List Cell) (peaks : List LinearPeak) : Type 0 where
   pub each : (j : ℕ) (kept : LinearPeak) → slice_get peaks j ≡ Some kept → kept.peak.register.place < length cells
 
--- the register of the peak has the text
+-- the register of the peak has the text, and its name is small
 pub record IsPeakTo (cells : List Cell) (peaks : List LinearPeak) (place : ℕ) (text : List ℕ) : Type 0 where
   pub kept : LinearPeak
   pub there : slice_get peaks place ≡ Some kept
   pub has : HasText cells kept.peak.register.place text
+  pub small : IsSmallNamed cells kept.peak.register.place
 
 -- of the first peaks none is that of a register with the text
 pub record HasNoneTo (cells : List Cell) (peaks : List LinearPeak) (count : ℕ) (text : List ℕ) : Type 0 where

@@ -7,7 +7,7 @@ ghost use Rattle.stage_law.specs.Kinds.{is_linear};
 ghost use Rattle.stage_law.specs.Registers.{needs_high};
 ghost use Rattle.stage_law.specs.Weights.{weights_of};
 ghost use Rattle.chain_build.specs.Built.{are_built};
-ghost use Rattle.chain_build.specs.Peaks.{HasPlace, AreInside, AreWithPlace, HasNoneTo, HasText, IsPeakTo, IsDriven, IsKeptOver, IsKeptPlace, AddsKeptOver, as_extreme};
+ghost use Rattle.chain_build.specs.Peaks.{HasPlace, AreInside, AreWithPlace, HasNoneTo, HasText, IsSmallNamed, IsPeakTo, IsDriven, IsKeptOver, IsKeptPlace, AddsKeptOver, as_extreme};
 ghost use Rattle.chain_build.specs.Told.{IsRegisterExtreme, HasNoRegister};
 
 use crate::chain::build_told;
@@ -154,6 +154,7 @@ pub(crate) fn extremes_of(
 fn has_text(alloc: Global, net: &Netlist, node: Node, text: &str) -> Result<bool, Memory>
     requires { node.place < length net.now }
     ensures some { IfOk result (λ same. same ≡ true → HasText net.now node.place text.now) }
+    ensures small { IfOk result (λ same. same ≡ true → IsSmallNamed net.now node.place) }
     ensures none { IfOk result (λ same. same ≡ false → HasText net.now node.place text.now → ⊥) }
 {
     match net.name(node) {

@@ -1,4 +1,4 @@
-use Rattle.std.proofs.Common.{◌∙◌, ◌≤◌, ap, length, map, subst, sym, List, ℕ}
+use Rattle.std.proofs.Common.{◌∙◌, ◌≤◌, ap, length, map, refl, subst, sym, List, ℕ}
 use Rattle.mr_values.specs.Timing.{groups, last_stream}
 use Rattle.mr_values.specs.Value.{size}
 use Rattle.net_graph.specs.declared.cell.Cell.{Cell}
@@ -23,6 +23,7 @@ use Rattle.plan_laws.proofs.Passes.{passes_of}
 use Rattle.chain_build.proofs.ExactPrefixes.{unrounded-linear}
 use Rattle.chain_build.proofs.OutputRange.{room-chain}
 use Rattle.chain_build.proofs.SoFar.{some_width}
+use Rattle.chain_build.proofs.SoonRead.{reads-value}
 use Rattle.chain_build.specs.Linear.{linear as linear_list}
 use Rattle.chain_build.specs.Peaks.{ArePeaksOf, as_extreme}
 use Rattle.chain_build.proofs.BuiltPeaks.{all_peaks}
@@ -67,7 +68,7 @@ returns c =
       groups = subst (λ (cells : List Cell). AreGrouped (length (groups es)) cells) (sym c.in-Ok.ensures.ok) (outputs_grouped c.in_ok-chained.ensures.groups outs formed);
       extremes = c.in_ok-extremes.ensures ∙ ap (map as_extreme) c.deref.ensures.value;
       peaks = subst (λ (cells : List Cell). ArePeaksOf W T es cells (linear_list W T es) c.add_chain_outputs.new.peaks.items) (sym c.in-Ok.ensures.ok)
-          (all_peaks W T es c.add_groups.new.net.cells _ c.in_ok-chained.chained.stream _ _ linear chained.period chained.offset chained.balance chained.long chained.early outs.grown.extends c.in_ok-chained.ensures.peaks c.in_ok-outputs.ensures.peaks);
+          (all_peaks W T es c.add_groups.new.net.cells _ c.in_ok-chained.chained.stream _ _ linear (λ none. reads-value c.args.plan.now es (groups es) c.requires.accepted none (linear none) refl refl) chained.period chained.offset chained.balance chained.long chained.early outs.grown.extends c.in_ok-chained.ensures.peaks c.in_ok-outputs.ensures.peaks);
       registers = subst (λ (cells : List Cell). HasLinearRegisters W T es cells) (sym c.in-Ok.ensures.ok)
           (has_linear W T es wide first chained outs (over W T es wide first chained linear outs) (carried_from W T es wide first chained linear outs) (shows W T es wide first chained linear outs cut_all IsCut-all chained.carries) formed
           (subst (λ (p : ℕ). HasGroupRegisters W T es c.add_groups.new.net.cells (record { node = c.in_ok-node.node; period = p; offset = 0 })) c.ticks_of.ensures c.in_ok-chained.ensures.registers));

@@ -11,6 +11,7 @@ has_text-requires c = inside_read c.args.net.now c.args.peaks.now c.loop-kept.ke
 pub returns-then-branch-clause-some : goal.returns-then-branch-clause-some
 returns-then-branch-clause-some c =
     peak_to c.args.net.now c.args.peaks.now c.loop-kept.kept-index c.loop-kept.place c.args.text.now c.kept-item.result c.loop-kept.invariant.1 c.loop-kept-test.true c.kept-item.is (c.in_ok-has_text.ensures.some c.if-branch.true)
+    (c.in_ok-has_text.ensures.small c.if-branch.true)
 
 pub loop-kept-preserved : goal.loop-kept-preserved
 loop-kept-preserved c = (
