@@ -1,6 +1,6 @@
 -- Peaks that are kept one after another.
-use Rattle.std.proofs.Common.{◌≡◌, ◌∙◌, ℕ, ◌+◌, ◌<◌, ◌≤◌, refl, sym, ap, subst, suc, All, Bool, true, false, List, [], ◌∷◌, ◌++◌, append_assoc, append-nil, length, map, take, get_or, ℤ, pos}
-use Rattle.std.proofs.lemmas.List.{map-append, take_all, take_more}
+use Rattle.std.proofs.Common.{◌≡◌, ◌∙◌, ℕ, ◌+◌, ◌*◌, ◌/◌, ◌<◌, ◌≤◌, arith, refl, sym, ap, subst, suc, All, Bool, true, false, List, [], ◌∷◌, ◌++◌, append_assoc, append-nil, length, length-append, replicate, map, take, get_or, ℤ, pos}
+use Rattle.std.proofs.lemmas.List.{length-replicate, map-append, take_all, take_more}
 use Rattle.std.proofs.lemmas.Option.{slice_get_read}
 use Rattle.mr_values.specs.declared.plan.Element.{Element}
 use Rattle.mr_values.specs.Sequence.{Sequence, samples, filter}
@@ -8,20 +8,24 @@ use Rattle.mr_values.specs.Value.{size, chain}
 use Rattle.mr_values.specs.Width.{FitsWidth}
 use Rattle.net_graph.specs.declared.cell.Stream.{Stream}
 use Rattle.impulse_phase.specs.Reading.{IsResponseOf, rows_of, responses_of}
-use Rattle.impulse_phase.specs.Response.{AreLinear, Responses, responses}
+use Rattle.impulse_phase.specs.Reach.{extent}
+use Rattle.impulse_phase.specs.Response.{AreLinear, Response, Responses, full_cycle, responses}
+use Rattle.impulse_phase.proofs.Reach.{weights-within_reach}
 use Rattle.stage_law.specs.Streams.{Streams, AreWithin}
 use Rattle.stage_law.specs.Weights.{weights_of}
 use Rattle.stage_law.specs.declared.stage.Peak.{Peak}
 use Rattle.width_extreme.specs.declared.prefix.PrefixRanges.{PrefixRanges}
-use Rattle.width_extreme.specs.Furthest.{end_of, IsEndReached}
+use Rattle.width_extreme.specs.Furthest.{end_of, whole_of, IsEndReached}
 use Rattle.width_extreme.specs.Prefix.{range_of, finer_classes}
-use Rattle.width_extreme.specs.Walk.{transform_of, HasFormRoom}
+use Rattle.width_extreme.specs.Walk.{transform_of, needed_for, HasFormRoom}
 use Rattle.width_extreme.proofs.Lawful.{tells}
 use Rattle.chain_build.specs.declared.extremes.LinearPeak.{LinearPeak}
 use Rattle.chain_build.specs.declared.extremes.RegisterExtreme.{RegisterExtreme}
 use Rattle.chain_build.specs.Peaks.{HasPlace, AreWithPlace, AreKept, AddsKeptOver, IsKeptOver, IsEndBy, HasSumRoom, IsKeptPeak, AddsPeaks, as_extreme}
+use Rattle.chain_build.specs.Soon.{soon_after}
 use Rattle.chain_build.proofs.PeakLists.{kept-push, kept-weaker}
 use Rattle.chain_build.proofs.SameStreams.{same_streams, streams_same}
+use Rattle.chain_build.proofs.SampleBounds.{soon-than}
 
 module _ (ranges : PrefixRanges) (from : Stream) (taken : ℕ) where
   pub kept_none : (peaks : List Peak) (old : List LinearPeak) → AddsKeptOver ranges from taken (take 0 peaks) old old
@@ -48,6 +52,24 @@ module _ {width : ℕ} {elements : List Element} (linear : AreLinear elements) (
   same_responses : responses_of ranges.table ≡ responses elements
   same_responses = tells elements ranges.table linear table
 
+  -- no row of the table has more weights than values depend on samples
+  longest-within : ranges.longest ≤ (extent elements).reach
+  longest-within =
+      ranges.long.least (extent elements).reach
+      (λ class below.
+      let row = table.rows class (subst (λ (n : ℕ). class < n) table.classes below) in
+      subst (λ (r : Response). length r.weights ≤ (extent elements).reach) (sym row) (weights-within_reach elements (pos class) linear))
+
+  soon-by : (peak : Peak) (index : ℕ) → index ≤ needed_for ranges.table ranges.longest peak.sum.behind (length peak.sum.weights.items) + whole_of ranges.table peak.class → index ≤ soon_after elements (weights_of peak.sum) peak.class
+  soon-by peak index soon =
+      let zeros = peak.sum.behind in
+      let factors = length peak.sum.weights.items in
+      let m = peak.class.modulus in
+      let count : length (weights_of peak.sum) ≡ zeros + factors = omega (arith, length-append (replicate zeros (pos 0)) peak.sum.weights.items, length-replicate zeros (pos 0)) in
+      soon-than elements (weights_of peak.sum) peak.class ranges.longest index zeros factors linear longest-within count
+      (subst (λ (n : ℕ). index ≤ zeros + factors + (full_cycle elements).classes * (ranges.longest / n + 1) + finer_classes (full_cycle elements).classes m * m) table.step
+      (subst (λ (n : ℕ). index ≤ zeros + factors + n * (ranges.longest / ranges.table.step + 1) + finer_classes n m * m) table.classes soon))
+
   pub end-by : (peak : Peak) (xs : List ℤ) (index : ℕ) (value : ℤ) → IsEndReached ranges.table ranges.width ranges.longest peak.sum peak.class peak.high xs index value → IsEndBy width elements (weights_of peak.sum) peak.class peak.high xs index value
   end-by peak xs index value r = record {
     fits = subst (λ (w : ℕ). All (FitsWidth w) xs) wide r.reaches.fits;
@@ -57,6 +79,7 @@ module _ {width : ℕ} {elements : List Element} (linear : AreLinear elements) (
         ∙ ap (λ (w : ℕ). end_of peak.high (range_of w (weights_of peak.sum) (responses_of ranges.table) peak.class (finer_classes (length (rows_of ranges.table)) peak.class.modulus))) wide
         ∙ ap (λ (f : Responses). end_of peak.high (range_of width (weights_of peak.sum) f peak.class (finer_classes (length (rows_of ranges.table)) peak.class.modulus))) same_responses
         ∙ ap (λ (n : ℕ). end_of peak.high (range_of width (weights_of peak.sum) (responses elements) peak.class (finer_classes n peak.class.modulus))) table.classes;
+    soon = soon-by peak index r.soon;
     few = subst (λ (f : Responses). length xs ≤ suc (size (f (pos index)).newest)) same_responses r.few;
   }
 

@@ -9,6 +9,7 @@ use Rattle.net_graph.specs.declared.name.NameKind.{NameKind}
 use Rattle.net_graph.specs.declared.name.NameKind.TheVariants.{Valid}
 use Rattle.net_graph.specs.Name.{IsRegisterKind, written_name}
 use Rattle.net_graph.specs.WellFormed.{IsNamed, IsNetlist}
+use Rattle.stage_law.specs.Weights.{weights_of}
 use Rattle.chain_build.specs.declared.extremes.LinearPeak.{LinearPeak}
 use Rattle.chain_build.specs.declared.extremes.RegisterSamples.{RegisterSamples}
 use Rattle.chain_build.specs.Linear.{LinearRegister, linear}
@@ -16,6 +17,7 @@ use Rattle.chain_build.specs.LinearNet.{HasLinearRegisters}
 use Rattle.chain_build.specs.Peaks.{ArePeaksOf, AreInside, HasNoneTo, HasText, IsSmallNamed, IsPeakTo, IsDriven, IsKeptPlace, IsOneOf}
 use Rattle.chain_build.specs.Told.{IsRegisterExtreme, HasNoRegister}
 use Rattle.chain_build.proofs.PeakPlaces.{extreme-input}
+use Rattle.chain_build.proofs.SampleBounds.{few-samples}
 
 pub inside_of : {width ticks : ℕ} {elements : List Element} (cells : List Cell) (peaks : List LinearPeak) → ArePeaksOf width ticks elements cells (linear width ticks elements) peaks → AreInside cells peaks
 inside_of cells peaks are = record { each = λ j kept there. (are.only j kept there).is.inside }
@@ -64,6 +66,7 @@ register_found {width} {ticks} {elements} {cells} {kept} {text} {x} one has d = 
       ap written_name same ∙ has.0.written;
   small = has.1.each one.r.name one.is.named;
   input = extreme-input one.is.place x.samples.items d.index x.tick x.value d.reached d.is_tick;
+  few = few-samples (take kept.taken elements) (weights_of kept.peak.sum) kept.peak.class (length x.samples.items) d.index one.is.place.linear one.is.place.reads d.reached.soon d.reached.few;
 }
 
 -- a linear register of the plan is no node that is shown as `out_valid`

@@ -34,7 +34,7 @@ use Rattle.chain_build.specs.Built.{kind_of}
 use Rattle.chain_build.specs.Extremes.{IsReached}
 use Rattle.chain_build.specs.Linear.{LinearRegister, each_index, linear, output_register, prefix_range}
 use Rattle.chain_build.specs.LinearOn.{output_registers}
-use Rattle.chain_build.specs.Soon.{ReadsFew}
+use Rattle.chain_build.specs.Soon.{soon_after, ReadsFew}
 
 -- ---- what is kept of a peak
 
@@ -77,12 +77,14 @@ pub record AddsKeptOver (ranges : PrefixRanges) (from : Stream) (taken : ℕ) (p
 
 -- ---- over what elements make of samples
 
--- these samples reach the end that is meant of the sum over what the elements make of them; none is later than the newest in the sum
+-- these samples reach the end that is meant of the sum over what the elements make of them, and soon; none is later than the newest in the
+-- sum
 pub record IsEndBy (width : ℕ) (elements : List Element) (form : List ℤ) (class : Class) (high : Bool) (xs : List ℤ) (index : ℕ) (value : ℤ) : Type 0 where
   pub fits : All (FitsWidth width) xs
   pub in_class : InClass class index
   pub is : filter form (chain elements (samples xs)) (pos index) ≡ value
   pub end : value ≡ end_of high (prefix_range width elements form class)
+  pub soon : index ≤ soon_after elements form class
   pub few : length xs ≤ suc (size (responses elements (pos index)).newest)
 
 -- the values are small enough for every sum of the form

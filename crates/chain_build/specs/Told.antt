@@ -1,5 +1,5 @@
 -- What is told of the linear registers of a plan for which one bit is too few.
-use Rattle.std.specs.Prelude.{◌≡◌, ℕ, ◌^◌, ◌<◌, List, length, Some, slice_get}
+use Rattle.std.specs.Prelude.{◌≡◌, ℕ, ◌^◌, ◌<◌, ◌≤◌, List, length, Some, slice_get}
 use Rattle.mr_values.specs.declared.plan.Element.{Element}
 use Rattle.net_graph.specs.declared.cell.Cell.{Cell}
 use Rattle.net_graph.specs.Cells.{cell_at}
@@ -27,7 +27,7 @@ pub record TellsRegisters (width ticks : ℕ) (elements : List Element) (cells :
   pub each : (r : LinearRegister) (s : HeldSum) → IsWideRegister width ticks elements r s → (j : ℕ) × (t : RegisterExtreme) × (slice_get told j ≡ Some t) × TellsRegister width ticks cells r s t
   pub only : (j : ℕ) (t : RegisterExtreme) → slice_get told j ≡ Some t → (r : LinearRegister) × (s : HeldSum) × IsWideRegister width ticks elements r s × TellsRegister width ticks cells r s t
 
--- these samples drive the linear register of this text, whose numbers have at most 64 bits, to this value at this tick
+-- these samples, which are few, drive the linear register of this text, whose numbers have at most 64 bits, to this value at this tick
 pub record IsRegisterExtreme (width ticks : ℕ) (elements : List Element) (text : List ℕ) (x : RegisterSamples) : Type 0 where
   pub r : LinearRegister
   pub s : HeldSum
@@ -35,6 +35,7 @@ pub record IsRegisterExtreme (width ticks : ℕ) (elements : List Element) (text
   pub named : written_name r.name ≡ text
   pub small : (r.name.group < 2 ^ 64) × (r.name.number < 2 ^ 64)
   pub input : IsExtremeInput width ticks r s x.samples.items x.tick x.value
+  pub few : length x.samples.items ≤ 2 ^ 27
 
 -- no linear register of the plan has this text and needs more than one bit
 pub record HasNoRegister (width ticks : ℕ) (elements : List Element) (text : List ℕ) : Type 0 where

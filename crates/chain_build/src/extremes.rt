@@ -206,8 +206,8 @@ fn samples_of(alloc: Global, plan: &Plan, kept: &LinearPeak) -> Result<RegisterS
     })
 }
 
-/// Samples that drive the linear register of this name to a value which needs all of its bits, or none where an accepted plan has no such
-/// register for which one bit is too few. Fails only for want of memory.
+/// Samples, at most 2^27, that drive the linear register of this name to a value which needs all of its bits, or none where an accepted plan
+/// has no such register for which one bit is too few. Fails only for want of memory.
 pub fn register_extreme(
     alloc: Global,
     plan: &Plan,

@@ -31,10 +31,10 @@ behind_mark register tick value = codes " register " ++ register ++ codes " tick
 ends_with_feed : (register : List ℕ) (tick : ℕ) (value : ℤ) (rest : List ℕ) → register_line register tick value ++ rest ≡ (35 ∷ behind_mark register tick value) ++ 10 ∷ rest
 ends_with_feed register tick value rest = append_assoc (35 ∷ behind_mark register tick value) (10 ∷ []) rest
 
-abbrev is_within : ℕ → Bool
+abbrev pub is_within : ℕ → Bool
 is_within byte = not (byte == 10)
 
-all_both : (xs ys : List ℕ) → list_all is_within xs ≡ true → list_all is_within ys ≡ true → list_all is_within (xs ++ ys) ≡ true
+pub all_both : (xs ys : List ℕ) → list_all is_within xs ≡ true → list_all is_within ys ≡ true → list_all is_within (xs ++ ys) ≡ true
 all_both xs ys first second = list_all-append is_within xs ys ∙ rw (first, second) refl
 
 one_behind : (register : List ℕ) (tick : ℕ) (value : ℤ) → list_all is_within register ≡ true → tick < 2 ^ 128 → FitsWidth 128 value → IsOneLine (35 ∷ behind_mark register tick value)

@@ -1,6 +1,5 @@
 // A line of the register, the tick and the value, and a line for each sample.
-ghost use Rattle.std.specs.Prelude.{◌≡◌, ◌==◌, ◌≤◌, ◌++◌, ℕ, All, not, true, length, IfOk};
-ghost use Rattle.std.specs.List.{list_all};
+ghost use Rattle.std.specs.Prelude.{◌≡◌, ◌≤◌, ℕ, All, IfOk};
 ghost use Rattle.mr_values.specs.Width.{FitsWidth};
 ghost use Rattle.extreme_file.specs.Reading.{ReadsAs};
 ghost use Rattle.extreme_file.specs.Room.{HasRoom};
@@ -11,15 +10,8 @@ use mr_values::Memory;
 use sample_file::put_row;
 use std::alloc::{AllocError, Global};
 
-/// The most bytes of a name, so that its line is no longer than the lines of a file may be.
-const LONGEST_NAME: usize = 3968;
-
-/// The most samples: with the line before them they are fewer than the lines that a file may have.
-const MOST_SAMPLES: usize = 0xFFFF_FFFE;
-
 /// The text of samples that drive a register to a value at a tick. Its first line, which readers skip, names these, and the others
-/// are the samples, one on each line. It fails for want of memory, and where a file of samples has no room for the name or for so
-/// many samples.
+/// are the samples, one on each line. Fails only for want of memory.
 pub fn extreme_text(
     alloc: Global,
     register: &str,
@@ -27,33 +19,17 @@ pub fn extreme_text(
     value: i128,
     samples: &[i64],
 ) -> Result<Vec<u8>, Memory>
+    requires room { HasRoom register.now samples.now }
     ensures lines { IfOk result (λ text. text.items ≡ extreme_lines register.now tick value samples.now) }
 
     // Read as samples of any width that holds them, the text gives them back.
     ensures reads { IfOk result (λ text. (width : ℕ) → width ≤ 128 → All (FitsWidth width) samples.now → ReadsAs width samples.now text.items) }
 {
-    if !has_room(register, samples) {
-        return Err(Memory);
-    }
     let mut text = register_line(alloc, register, tick, value)?;
     for sample in samples {
         put_row(alloc, &mut text, &[i128::from(*sample)])?;
     }
     Ok(text)
-}
-
-// Whether a name has no line feed.
-fn is_one_line(name: &str) -> bool
-    ensures { result ≡ list_all (λ byte. not (byte == 10)) name.now }
-{
-    name.bytes().all(|byte| byte != b'\n')
-}
-
-// Whether a file of samples has room for the name and for so many samples.
-fn has_room(register: &str, samples: &[i64]) -> bool
-    ensures { result ≡ true → HasRoom register.now samples.now }
-{
-    register.len() <= LONGEST_NAME && is_one_line(register) && samples.len() <= MOST_SAMPLES
 }
 
 // The first line.

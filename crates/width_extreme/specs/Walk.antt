@@ -18,9 +18,10 @@ pub record IsLawful (table : Table) : Type 0 where
   pub starts : (n : ℕ) → (responses_of table (negsuc n)).newest <ℤ pos 0
   pub has_step : 0 < table.step
 
--- no row has more weights
+-- no row has more weights, and this is the least such number
 pub record IsLongest (table : Table) (longest : ℕ) : Type 0 where
   pub each : (class : ℕ) → class < length (rows_of table) → length (get_or (rows_of table) class silent).weights ≤ longest
+  pub least : (most : ℕ) → ((class : ℕ) → class < length (rows_of table) → length (get_or (rows_of table) class silent).weights ≤ most) → longest ≤ most
 
 -- how many samples the newest one of the index `back` before lies behind that of the index
 abbrev pub delay_at : Table → ℕ → ℕ → ℕ

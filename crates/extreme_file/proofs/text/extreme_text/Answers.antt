@@ -1,4 +1,4 @@
-use Rattle.std.proofs.Common.{◌≡◌, ℤ, FitsSigned, subst, arith, rules, sym}
+use Rattle.std.proofs.Common.{◌≡◌, ℤ, FitsSigned, subst, arith, sym}
 use Rattle.std.specs.Int.{w128}
 use Rattle.std.proofs.lemmas.Grind.{common_steps}
 use Rattle.std.proofs.lemmas.Int.{ints}
@@ -15,4 +15,4 @@ pub returns-clause-reads : goal.returns-clause-reads
 returns-clause-reads c = λ width narrow fit.
     let lines : c.loop-sample.text.items ≡ extreme_lines c.args.register.now c.args.tick c.args.value c.args.samples.now = grind (arith, common_steps) in
     subst (ReadsAs width c.args.samples.now) (sym lines)
-    (reads_as c.args.register.now c.args.tick c.args.value c.args.samples.now width (search rules) c.ranges.tick.fits (fits_of c.args.value c.ranges.value) narrow fit)
+    (reads_as c.args.register.now c.args.tick c.args.value c.args.samples.now width c.requires.room c.ranges.tick.fits (fits_of c.args.value c.ranges.value) narrow fit)

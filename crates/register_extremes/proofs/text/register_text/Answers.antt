@@ -8,8 +8,15 @@ use Rattle.chain_build.specs.declared.extremes.RegisterSamples.{RegisterSamples}
 use Rattle.chain_build.specs.Told.{IsRegisterExtreme}
 use Rattle.extreme_file.specs.Reading.{ReadsAs}
 use Rattle.extreme_file.specs.Text.{extreme_lines}
-use Rattle.register_extremes.proofs.Steps.{text_of}
+use Rattle.register_extremes.proofs.Steps.{extreme_room, text_of}
 use Rattle.register_extremes.proofs.text.register_text.Goals as goal
+
+pub extreme_text-requires : goal.extreme_text-requires
+extreme_text-requires c =
+    let plan = c.args.plan.now in
+    let x = c.in-Some.extreme in
+    let is = subst (λ (found : Option RegisterSamples). IfSome found (λ y. IsRegisterExtreme (size plan.width) (size plan.ticks) plan.elements c.args.register.now y)) c.in-Some.is c.in_ok-extreme.ensures.some in
+    record { room = extreme_room c.deref.result.now c.deref.ensures.value is }
 
 pub returns-in_ok-text-in-Some-clause-some : goal.returns-in_ok-text-in-Some-clause-some
 returns-in_ok-text-in-Some-clause-some c =
