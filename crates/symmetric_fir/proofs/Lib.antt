@@ -1,0 +1,5 @@
+pub mod SumLemmas
+pub mod PairLemmas
+pub mod SmallLemmas
+pub mod RealisesLemmas
+pub mod ReadyLemmas
