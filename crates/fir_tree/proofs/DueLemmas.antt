@@ -1,8 +1,7 @@
 -- What the registers of a window and of a tree hold.
-use Rattle.std.proofs.Common.{◌≡◌, ℕ, zero, suc, ◌+◌, ◌-◌, ◌*◌, ◌^◌, ◌<◌, ◌≤◌, List, [], ◌∷◌, ◌++◌, length, length-append, get_or, map, drop, refl, sym, ◌∙◌, ap, arith, inl, inr, subst, ℤ, pos, ◌-ℤ◌, Some, slice_get, All}
-use Rattle.std.proofs.lemmas.Bool.{cases_lt}
+use Rattle.std.proofs.Common.{◌≡◌, ℕ, suc, ◌+◌, ◌*◌, ◌^◌, ◌<◌, ◌≤◌, List, length, get_or, map, drop, refl, sym, ◌∙◌, ap, arith, subst, ℤ, pos, ◌-ℤ◌, Some, slice_get, All}
 use Rattle.std.proofs.lemmas.List.{length-map}
-use Rattle.std.proofs.lemmas.List.Elements.{All-head, All-tail, All-take, All-drop}
+use Rattle.std.proofs.lemmas.List.Elements.{All-take, All-drop}
 use Rattle.std.proofs.lemmas.Option.{slice_get_within}
 use Rattle.mr_values.specs.Sequence.{Sequence}
 use Rattle.net_graph.specs.declared.cell.Cell.{Cell}
@@ -17,12 +16,11 @@ use Rattle.net_graph.specs.Grow.{Extends}
 use Rattle.net_graph.specs.Run.{Values, IsRun}
 use Rattle.signed_digit.specs.declared.term_list.Term.{Term}
 use Rattle.signed_digit.specs.Terms.{term_sum}
-use Rattle.pipeline_balance.specs.Gate.{Carries, HasTaken, Holds, shown}
+use Rattle.pipeline_balance.specs.Gate.{Carries, HasTaken, shown}
 use Rattle.pipeline_balance.specs.Leaves.{delayed, signed_sum, held_sum, segment}
 use Rattle.pipeline_balance.specs.Numbered.{IsCounted, name_of}
 use Rattle.pipeline_balance.specs.Tree.{level_count, count_to}
 use Rattle.pipeline_balance.proofs.NumberedLemmas.{IsRegister-later}
-use Rattle.pipeline_balance.proofs.TakenLemmas.{Holds-later}
 use Rattle.stage_law.specs.Range.{IsRange}
 use Rattle.stage_law.specs.Registers.{HeldSum}
 use Rattle.stage_law.specs.Streams.{Streams, AreCausal}

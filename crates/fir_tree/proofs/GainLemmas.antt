@@ -1,5 +1,5 @@
 -- How great the taps of a filter are together.
-use Rattle.std.proofs.Common.{◌≡◌, ℕ, ◌+◌, ◌*◌, ◌^◌, ◌≤◌, List, [], ◌∷◌, length, arith, ℤ, pos, negsuc, neg_ℤ, ◌≤ℤ◌, All, unsigned_abs}
+use Rattle.std.proofs.Common.{◌*◌, ◌^◌, ◌≤◌, List, [], ◌∷◌, length, arith, ℤ, pos, negsuc, neg_ℤ, ◌≤ℤ◌, All, unsigned_abs}
 use Rattle.std.proofs.lemmas.Int.{ints}
 use Rattle.std.proofs.lemmas.List.Elements.{All-head, All-tail}
 use Rattle.std.proofs.Math.Nat.{mul-le-mul_right}

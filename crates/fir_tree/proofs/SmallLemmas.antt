@@ -1,5 +1,5 @@
 -- The forms of registers are small.
-use Rattle.std.proofs.Common.{◌≡◌, ℕ, zero, suc, ◌+◌, ◌*◌, ◌^◌, ◌≤◌, List, length, drop, map, ◌∙◌, ap, arith, inl, inr, subst, ℤ, pos, false, Some, slice_get}
+use Rattle.std.proofs.Common.{◌≡◌, ℕ, zero, suc, ◌*◌, ◌^◌, ◌≤◌, List, length, drop, ◌∙◌, ap, arith, inl, inr, subst, false, Some, slice_get}
 use Rattle.net_graph.specs.declared.name.NameKind.{NameKind}
 use Rattle.net_graph.proofs.Lists.{slice_get_push_cases}
 use Rattle.signed_digit.specs.declared.term_list.Term.{Term}

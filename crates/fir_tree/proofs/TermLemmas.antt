@@ -1,13 +1,11 @@
 -- The terms of a phase: their sum, their places and how great they are.
-use Rattle.std.proofs.Common.{◌≡◌, ℕ, zero, suc, ◌+◌, ◌-◌, ◌*◌, ◌/◌, ◌%◌, ◌^◌, ◌<◌, ◌≤◌, List, [], ◌∷◌, ◌++◌, length, map, take, drop, refl, ◌∙◌, ap, arith, Bool, false, cond, ℤ, ◌+ℤ◌, ◌*ℤ◌, All, unsigned_abs, inl, inr}
-use Rattle.std.proofs.lemmas.List.{length-map}
-use Rattle.std.proofs.lemmas.List.Elements.{All-nil, All-cons, All-append, All-map, All-weaker}
+use Rattle.std.proofs.Common.{◌≡◌, ℕ, zero, suc, ◌+◌, ◌-◌, ◌*◌, ◌/◌, ◌%◌, ◌^◌, ◌<◌, ◌≤◌, List, [], ◌∷◌, ◌++◌, length, map, take, drop, refl, ◌∙◌, ap, arith, Bool, ℤ, All, unsigned_abs, inl, inr}
+use Rattle.std.proofs.lemmas.List.Elements.{All-nil, All-cons, All-append, All-map}
 use Rattle.std.proofs.lemmas.Bool.{cases_eq}
-use Rattle.std.proofs.Math.Nat.{mul-le-mul_right, le-div_iff_mul-le, div-mul-le_self, pow-suc}
-use Rattle.std.proofs.lemmas.Nat.{div-mul-add}
+use Rattle.std.proofs.Math.Nat.{mul-le-mul_right, pow-suc}
 use Rattle.std.specs.Int.{is_negative}
 use Rattle.mr_values.specs.declared.digit.Digit.{Digit}
-use Rattle.mr_values.specs.Digit.{with_sign, rest_of, rest_by, with_digit, digits_to, non_adjacent}
+use Rattle.mr_values.specs.Digit.{rest_of, rest_by, with_digit, digits_to, non_adjacent}
 use Rattle.mr_values.specs.Sequence.{weighted_sum, phase}
 use Rattle.mr_values.specs.Timing.{terms}
 use Rattle.mr_values.proofs.Polyphase.{weighted_sum-same}

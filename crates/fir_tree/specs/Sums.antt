@@ -1,5 +1,5 @@
 -- A tree over nodes that show sums of a stream's values.
-use Rattle.std.specs.Prelude.{◌≡◌, ℕ, ◌^◌, ◌<◌, ◌≤◌, List, length, map, All, true, Some, slice_get}
+use Rattle.std.specs.Prelude.{◌≡◌, ℕ, ◌^◌, ◌≤◌, List, length, map, All, true, Some, slice_get}
 use Rattle.net_graph.specs.declared.cell.Cell.{Cell}
 use Rattle.net_graph.specs.declared.cell.Node.{Node}
 use Rattle.net_graph.specs.declared.cell.Stream.{Stream}

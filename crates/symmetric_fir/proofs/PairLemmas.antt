@@ -1,8 +1,7 @@
 -- What the pairs of mirrored taps sum to, and how great they are.
-use Rattle.std.proofs.Common.{◌≡◌, ℕ, zero, suc, ◌+◌, ◌-◌, ◌*◌, ◌/◌, ◌%◌, ◌^◌, ◌<◌, ◌≤◌, List, [], ◌∷◌, ◌++◌, length, length-append, map, take, get_or, refl, sym, ◌∙◌, ap, arith, inl, inr, subst, Bool, true, false, cond, sum_by, ℤ, pos, negsuc, neg_ℤ, ◌+ℤ◌, ◌-ℤ◌, ◌*ℤ◌, All, unsigned_abs}
-use Rattle.std.proofs.lemmas.Bool.{cases_eq}
+use Rattle.std.proofs.Common.{◌≡◌, ℕ, zero, suc, ◌+◌, ◌-◌, ◌*◌, ◌/◌, ◌%◌, ◌<◌, ◌≤◌, List, [], ◌∷◌, ◌++◌, length, length-append, map, take, get_or, refl, sym, ◌∙◌, ap, arith, subst, Bool, true, false, cond, sum_by, ℤ, pos, negsuc, neg_ℤ, ◌+ℤ◌, ◌-ℤ◌, ◌*ℤ◌, All, unsigned_abs}
 use Rattle.std.proofs.lemmas.Int.{ints}
-use Rattle.std.proofs.lemmas.List.{length-map, map-append, append_assoc}
+use Rattle.std.proofs.lemmas.List.{length-map, map-append}
 use Rattle.std.proofs.lemmas.List.Elements.{All-nil, All-cons, All-append, All-map, All-weaker}
 use Rattle.std.proofs.lemmas.List.Sums.{sum_by-append, sum_by-cons, sum_by_push}
 use Rattle.std.proofs.Math.Seq.{take-suc}
@@ -14,7 +13,7 @@ use Rattle.signed_digit.specs.declared.term_list.Term.{Term}
 use Rattle.signed_digit.specs.Terms.{term_sum}
 use Rattle.stage_law.specs.Streams.{magnitudes}
 use Rattle.fir_tree.specs.declared.reading.Reading.{Reading}
-use Rattle.fir_tree.specs.declared.reading.Reading.TheVariants.{One, Sum, Difference}
+use Rattle.fir_tree.specs.declared.reading.Reading.TheVariants.{One}
 use Rattle.fir_tree.specs.Placed.{powers}
 use Rattle.fir_tree.specs.Reading.{read, ReadsWithin, reading_at, reading_adders, all_adders, spread}
 use Rattle.fir_tree.proofs.FormLemmas.{neg_times, abs_signed}

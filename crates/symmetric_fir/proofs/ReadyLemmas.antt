@@ -1,8 +1,7 @@
 -- When the tree over a window's pairs may be built, and what stands then.
-use Rattle.std.proofs.Common.{◌≡◌, ℕ, ◌+◌, ◌*◌, ◌^◌, ◌<◌, ◌≤◌, List, ◌++◌, length, length-append, map, refl, sym, ◌∙◌, ap, arith, subst, ℤ, unsigned_abs, Some, slice_get}
+use Rattle.std.proofs.Common.{◌≡◌, ℕ, ◌+◌, ◌*◌, ◌^◌, ◌<◌, ◌≤◌, List, ◌++◌, length, length-append, sym, ◌∙◌, ap, arith, subst, ℤ, unsigned_abs, Some, slice_get}
 use Rattle.std.proofs.lemmas.List.{length-map}
 use Rattle.std.proofs.lemmas.Option.{slice_get-get_or, slice_get_within}
-use Rattle.mr_values.specs.Sequence.{weighted_sum}
 use Rattle.mr_values.specs.Timing.{ceil_log}
 use Rattle.mr_values.specs.Value.{AreTaps}
 use Rattle.net_graph.specs.declared.cell.Node.{Node}
@@ -17,7 +16,7 @@ use Rattle.fir_tree.specs.declared.reading.Reading.{Reading}
 use Rattle.fir_tree.specs.declared.reading.Reading.TheVariants.{One}
 use Rattle.fir_tree.specs.Form.{reading_form}
 use Rattle.fir_tree.specs.Held.{IsFormWidth, held_sum}
-use Rattle.fir_tree.specs.Listed.{reading_sum, reading_sums, tree_sums}
+use Rattle.fir_tree.specs.Listed.{reading_sum}
 use Rattle.fir_tree.specs.Placed.{leaf_of}
 use Rattle.fir_tree.specs.Reading.{reading_at}
 use Rattle.fir_tree.specs.Sums.{AddsTree, IsReady}

@@ -1,70 +1,61 @@
 -- A window, registers over its pairs and a tree realise a filter with mirrored taps before a Down.
-use Rattle.std.proofs.Common.{◌≡◌, ℕ, zero, suc, ◌+◌, ◌-◌, ◌*◌, ◌<◌, ◌≤◌, max, List, [], ◌∷◌, ◌++◌, length, length-append, map, get_or, refl, sym, ◌∙◌, ap, arith, subst, inl, inr, ℤ, pos, ◌+ℤ◌, ◌-ℤ◌, ◌*ℤ◌, unsigned_abs, All, Some, slice_get, Bool, true, false, cond}
+use Rattle.std.proofs.Common.{◌≡◌, ℕ, suc, ◌+◌, ◌-◌, ◌*◌, ◌<◌, ◌≤◌, List, ◌++◌, length, length-append, map, refl, sym, ◌∙◌, ap, arith, subst, inl, inr, ℤ, pos, ◌-ℤ◌, ◌*ℤ◌, All, Some, slice_get}
 use Rattle.std.proofs.lemmas.Bool.{cases_lt}
 use Rattle.std.proofs.lemmas.Int.{ints}
-use Rattle.std.proofs.lemmas.List.{length-map, append_assoc}
-use Rattle.std.proofs.lemmas.List.Elements.{All-nil, All-cons, All-append, All-head}
+use Rattle.std.proofs.lemmas.List.{length-map}
 use Rattle.std.proofs.lemmas.Option.{slice_get-get_or, slice_get_within}
-use Rattle.mr_values.specs.Sequence.{Sequence, weighted_sum}
-use Rattle.mr_values.specs.Timing.{ceil_log}
-use Rattle.mr_values.specs.Value.{AreTaps}
 use Rattle.mr_values.proofs.Polyphase.{weighted_sum-same}
-use Rattle.net_graph.specs.declared.cell.Cell.{Cell}
-use Rattle.net_graph.specs.declared.cell.Leaf.{Leaf}
 use Rattle.net_graph.specs.declared.cell.Node.{Node}
 use Rattle.net_graph.specs.declared.cell.Stream.{Stream}
 use Rattle.net_graph.specs.declared.name.Name.{Name}
 use Rattle.net_graph.specs.declared.name.NameKind.{NameKind}
 use Rattle.net_graph.specs.declared.name.NameKind.TheVariants.{Control, Window, PreAdder, Register}
-use Rattle.net_graph.specs.Cells.{NetView, cell_at}
-use Rattle.net_graph.specs.Count.{adders_in, windows_in, tables_in}
+use Rattle.net_graph.specs.Cells.{NetView}
+use Rattle.net_graph.specs.Count.{adders_in, windows_in}
 use Rattle.net_graph.specs.Cut.{Cut, IsCut, cut_all, cut_control}
 use Rattle.net_graph.specs.Depth.{IsPlain, IsShallow}
-use Rattle.net_graph.specs.Grow.{Extends, Grows}
+use Rattle.net_graph.specs.Grow.{Extends}
 use Rattle.net_graph.specs.WellFormed.{IsBound, IsFree}
 use Rattle.net_graph.proofs.CutLemmas.{IsCut-all, IsCut-control}
 use Rattle.net_graph.proofs.DepthLemmas.{IsShallow-none}
 use Rattle.net_graph.proofs.GrowLemmas.{Grows-trans}
 use Rattle.net_graph.proofs.NetLemmas.{Extends-trans}
 use Rattle.signed_digit.specs.declared.term_list.Term.{Term}
-use Rattle.signed_digit.specs.Terms.{term_sum}
 use Rattle.pipeline_balance.specs.Gate.{HasTaken}
 use Rattle.pipeline_balance.specs.Numbered.{IsCounted, IsTouched, LeavesFree, name_of}
-use Rattle.pipeline_balance.specs.Shallow.{ArePlain, HasPlainLeaves}
+use Rattle.pipeline_balance.specs.Shallow.{ArePlain}
 use Rattle.pipeline_balance.specs.Tree.{tree_adders}
 use Rattle.pipeline_balance.proofs.NumberedLemmas.{LeavesFree-trans, IsCounted-leaves}
 use Rattle.pipeline_balance.proofs.ShallowLemmas.{shallow_more, ArePlain-later}
 use Rattle.pipeline_balance.proofs.ShapeLemmas.{KeepsShapes-trans}
 use Rattle.stage_law.specs.Range.{IsRange}
 use Rattle.stage_law.specs.Realises.{Realises, CarriesThrough, IsOwnName, IsUnused}
-use Rattle.stage_law.specs.Registers.{HeldSum, StageRegister}
-use Rattle.stage_law.specs.Streams.{Streams, AreCausal, magnitudes}
+use Rattle.stage_law.specs.Registers.{HeldSum}
+use Rattle.stage_law.specs.Streams.{Streams, AreCausal}
 use Rattle.stage_law.specs.Weights.{weights_of}
 use Rattle.stage_law.specs.declared.stage.Emitted.{Emitted}
-use Rattle.stage_law.specs.declared.stage.Peak.{Peak}
 use Rattle.fir_tree.specs.declared.held.Held.{Held}
 use Rattle.fir_tree.specs.declared.reading.Reading.{Reading}
 use Rattle.fir_tree.specs.declared.reading.Reading.TheVariants.{One}
 use Rattle.fir_tree.specs.Cutting.{AddsWindow, IsCutWindow}
 use Rattle.fir_tree.specs.Form.{reading_form}
-use Rattle.fir_tree.specs.Held.{AreHeld, IsFormWidth, held_sum}
-use Rattle.fir_tree.specs.Listed.{every, unit_form, window_sums, window_sum, reading_sum, reading_sums, tree_sums, numbered}
+use Rattle.fir_tree.specs.Held.{AreHeld, held_sum}
+use Rattle.fir_tree.specs.Listed.{every, unit_form, window_sums, reading_sum, reading_sums, tree_sums}
 use Rattle.fir_tree.specs.Peaks.{HoldsForm, IsDue, peaks_at}
-use Rattle.fir_tree.specs.Placed.{leaf_of, term_adders}
+use Rattle.fir_tree.specs.Placed.{leaf_of}
 use Rattle.fir_tree.specs.Reading.{ReadsWithin, reading_at, all_adders}
 use Rattle.fir_tree.specs.Readers.{AddsReaders}
-use Rattle.fir_tree.specs.Sums.{AreShown, AddsTree}
+use Rattle.fir_tree.specs.Sums.{AreShown}
 use Rattle.fir_tree.proofs.DueLemmas.{HoldsForm-later, IsDue-later, IsDue-soon, tree_root, tree_due, tree_many, window_due}
 use Rattle.fir_tree.proofs.LeastLemmas.{IsOwn, IsPart, has_registers}
 use Rattle.fir_tree.proofs.ListLemmas.{beside, slice_get-append_first, slice_get_past, length-window_sums, window_sums-at}
 use Rattle.fir_tree.proofs.ReadersLemmas.{IsCutWindow-later}
-use Rattle.fir_tree.proofs.ReadingLemmas.{shown_by}
 use Rattle.fir_tree.proofs.TreeLemmas.{tree_adders-terms, plain_leaves}
 use Rattle.fir_tree.proofs.WidthsLemmas.{AreHeld-append, slice_get_some, slice_get_mapped}
 use Rattle.symmetric_fir.specs.Facts.{mirror_facts, elements_of, levels_of, later_sums}
-use Rattle.symmetric_fir.specs.Front.{AddsFront, AddsSums}
-use Rattle.symmetric_fir.specs.Pairs.{IsMirrored, pair_places, pairs, centres, readings, firsts, mirror_terms}
-use Rattle.symmetric_fir.proofs.PairLemmas.{mirror_sum, length-readings, readings_within, pair_adders, centre_adders, terms_within}
+use Rattle.symmetric_fir.specs.Front.{AddsSums}
+use Rattle.symmetric_fir.specs.Pairs.{IsMirrored, pairs, centres, readings, mirror_terms}
+use Rattle.symmetric_fir.proofs.PairLemmas.{mirror_sum, readings_within, pair_adders, centre_adders, terms_within}
 use Rattle.symmetric_fir.proofs.SmallLemmas.{registers_small}
 
 own_name : (group : ℕ) (kind : NameKind) (name : Name) → IsTouched group kind name → IsOwnName group name

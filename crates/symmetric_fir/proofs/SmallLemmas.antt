@@ -1,8 +1,6 @@
 -- The forms of a filter's registers are small.
-use Rattle.std.proofs.Common.{◌≡◌, ℕ, zero, suc, ◌+◌, ◌*◌, ◌/◌, ◌%◌, ◌<◌, ◌≤◌, max, List, [], ◌∷◌, ◌++◌, length, map, refl, sym, ◌∙◌, ap, arith, Bool, true, false, cond, ℤ, pos, negsuc, unsigned_abs, All, Some, slice_get, subst}
-use Rattle.std.proofs.lemmas.List.{length-map}
+use Rattle.std.proofs.Common.{◌≡◌, ℕ, zero, suc, ◌+◌, ◌*◌, ◌/◌, ◌%◌, ◌≤◌, max, List, [], ◌∷◌, ◌++◌, length, map, refl, arith, Bool, true, false, cond, ℤ, pos, negsuc, unsigned_abs, All, Some, slice_get, subst}
 use Rattle.std.proofs.lemmas.List.Elements.{All-nil, All-cons, All-append, All-head, All-tail}
-use Rattle.std.proofs.lemmas.Option.{slice_get_within}
 use Rattle.net_graph.specs.declared.name.NameKind.{NameKind}
 use Rattle.net_graph.specs.declared.name.NameKind.TheVariants.{Window, PreAdder, Register}
 use Rattle.stage_law.specs.Registers.{HeldSum, StageRegister}

@@ -1,4 +1,4 @@
-use Rattle.std.proofs.Common.{◌≡◌, ◌+◌, ◌-◌, ◌≤◌, arith, length, drop, add-one, drop-cons, ap, ◌∙◌, sym, get_or, List, ◌∷◌, ◌++◌, pos, ℤ, ◌+ℤ◌, ℕ, false, Bool, replicate}
+use Rattle.std.proofs.Common.{◌≡◌, ◌+◌, ◌-◌, ◌≤◌, arith, length, drop, add-one, drop-cons, ap, ◌∙◌, sym, get_or, List, ◌∷◌, ◌++◌, pos, ℤ, ◌+ℤ◌, ℕ, false, replicate}
 use Rattle.signed_digit.specs.declared.term_list.Term.{Term}
 use Rattle.std.proofs.lemmas.List.{length-set, length-replicate}
 use Rattle.stage_law.specs.Streams.{magnitudes}

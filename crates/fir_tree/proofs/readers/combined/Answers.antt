@@ -1,8 +1,8 @@
-use Rattle.std.proofs.Common.{◌≡◌, sym, refl, subst, length}
+use Rattle.std.proofs.Common.{sym, refl, subst, length}
 use Rattle.std.proofs.lemmas.Result.{IfOk-weaker}
 use Rattle.net_graph.proofs.NetLemmas.{Extends-adds}
 use Rattle.fir_tree.specs.declared.reading.Reading.{Reading}
-use Rattle.fir_tree.specs.declared.reading.Reading.TheVariants.{One, Sum, Difference}
+use Rattle.fir_tree.specs.declared.reading.Reading.TheVariants.{Sum, Difference}
 use Rattle.fir_tree.specs.Reading.{ReadsWithin}
 use Rattle.fir_tree.specs.Readers.{IsCombined}
 use Rattle.fir_tree.proofs.ReadersLemmas.{IsCombined-one, IsCombined-add, IsCombined-sub}

@@ -1,8 +1,8 @@
-use Rattle.std.proofs.Common.{◌≡◌, ◌∙◌, ◌≤◌, ◌*◌, ◌^◌, ap, subst, arith, List, [], ◌++◌, ℤ, ℕ, All, false}
+use Rattle.std.proofs.Common.{◌≡◌, ◌∙◌, ◌≤◌, ◌*◌, ◌^◌, ap, subst, arith, List, ◌++◌, ℤ, false}
 use Rattle.std.proofs.Math.Nat.{mul-le-mul_left}
 use Rattle.signed_digit.specs.declared.term_list.Term.{Term}
 use Rattle.stage_law.specs.Weights.{weights_of}
-use Rattle.fir_tree.specs.Form.{one_value, weights_by, reading_form}
+use Rattle.fir_tree.specs.Form.{one_value, weights_by}
 use Rattle.fir_tree.specs.Held.{IsHeld}
 use Rattle.fir_tree.specs.Placed.{powers}
 use Rattle.fir_tree.specs.Reading.{terms_at}

@@ -1,9 +1,7 @@
-use Rattle.std.proofs.Common.{◌≡◌, ◌∙◌, ap, subst, List, ◌≤◌, ◌^◌, ◌*◌, All, ℤ}
-use Rattle.signed_digit.specs.declared.term_list.Term.{Term}
+use Rattle.std.proofs.Common.{◌≡◌, ◌∙◌, ap, subst, List, ℤ}
 use Rattle.stage_law.specs.Weights.{weights_of}
 use Rattle.fir_tree.specs.Form.{weights_by, form_of}
 use Rattle.fir_tree.specs.Held.{IsHeld}
-use Rattle.fir_tree.specs.Placed.{all_minus, powers}
 use Rattle.fir_tree.specs.Reading.{spread}
 use Rattle.fir_tree.proofs.FormLemmas.{form_small}
 use Rattle.fir_tree.proofs.ReadingLemmas.{short_spread}

@@ -1,4 +1,4 @@
-use Rattle.std.proofs.Common.{◌≡◌, ◌∙◌, ℕ, ◌*◌, ◌<◌, ◌≤◌, ◌^◌, List, ℤ, length, sum_by, sym, ap, arith}
+use Rattle.std.proofs.Common.{◌≡◌, ◌∙◌, List, ℤ, length, sum_by, sym, ap, arith}
 use Rattle.mr_values.specs.Digit.{digit_count}
 use Rattle.mr_values.specs.Sequence.{phase}
 use Rattle.mr_values.specs.Timing.{ceil_log}

@@ -2,8 +2,8 @@ use Rattle.std.proofs.Common.{◌≡◌, ◌∙◌, ℕ, List, length, sym, subs
 use Rattle.net_graph.proofs.NetLemmas.{Extends-trans}
 use Rattle.fir_tree.specs.declared.reading.Reading.{Reading}
 use Rattle.fir_tree.specs.Reading.{ReadsWithin}
-use Rattle.symmetric_fir.specs.Pairs.{pairs, centres}
-use Rattle.symmetric_fir.proofs.PairLemmas.{pairs_within, centres_within}
+use Rattle.symmetric_fir.specs.Pairs.{pairs}
+use Rattle.symmetric_fir.proofs.PairLemmas.{pairs_within}
 use Rattle.symmetric_fir.proofs.front.add_front.Goals as goal
 
 pub add_readers-requires-clause-within : goal.add_readers-requires-clause-within

@@ -1,9 +1,8 @@
-use Rattle.std.proofs.Common.{◌≡◌, ◌∙◌, ◌++◌, ◌≤◌, ◌<◌, ◌+◌, ◌^◌, ℕ, List, [], ap, sym, refl, subst, arith, length, slice_get, Some}
+use Rattle.std.proofs.Common.{◌≡◌, ◌∙◌, ◌++◌, ◌≤◌, ℕ, List, ap, sym, subst, arith, length, slice_get, Some}
 use Rattle.std.proofs.lemmas.List.{length-map, append_assoc}
 use Rattle.net_graph.specs.declared.cell.Node.{Node}
 use Rattle.net_graph.proofs.NetLemmas.{Extends-trans}
 use Rattle.stage_law.specs.declared.stage.Peak.{Peak}
-use Rattle.fir_tree.specs.Cutting.{IsCutWindow}
 use Rattle.fir_tree.specs.Held.{AreHeld, held_sum}
 use Rattle.fir_tree.specs.Listed.{window_sums}
 use Rattle.fir_tree.specs.Peaks.{peaks_at}
