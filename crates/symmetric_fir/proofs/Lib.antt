@@ -3,3 +3,4 @@ pub mod PairLemmas
 pub mod SmallLemmas
 pub mod RealisesLemmas
 pub mod ReadyLemmas
+pub mod MirroredLemmas

@@ -73,3 +73,18 @@ fn builds_a_difference(rt: HostRuntime) -> Result<(), Fail> {
     assert_eq!(rt; net.free_number(1, NameKind::Register), 0);
     Ok(())
 }
+
+#[test]
+fn counts_by_hand(rt: HostRuntime) -> Result<(), Fail> {
+    let negative = Mirror::<0>::new(rt.alloc(), &[-1, 0, -1], 1)?;
+    assert_eq!(rt; negative.cost().adders, 2);
+    assert_eq!(rt; negative.delay(1), 2);
+    let even = Mirror::<0>::new(rt.alloc(), &[3, 3], 1)?;
+    assert_eq!(rt; even.cost().adders, 2);
+    assert_eq!(rt; even.delay(1), 3);
+    let silent = Mirror::<0>::new(rt.alloc(), &[0, 0, 0], 1)?;
+    assert_eq!(rt; silent.cost().adders, 0);
+    assert_eq!(rt; silent.cost().windows, 3);
+    assert_eq!(rt; silent.delay(1), 2);
+    Ok(())
+}
