@@ -19,4 +19,4 @@ pub use numbers::{adders_for, ceil_log};
 pub use peaks::{push_peaks, window_held};
 pub use readers::{Readers, add_readers};
 pub use reading::Reading;
-pub use tree::{Tree, sum_tree};
+pub use tree::{Shown, Tree, sum_tree};

@@ -23,26 +23,33 @@ pub struct Tree {
     pub held: Vec<Held>,
 }
 
-/// The sum of these terms over nodes that show these readings so many ticks after a window, in registers of the least widths, numbered on
-/// from the first free number. After want of memory there may be more nodes.
+/// Nodes that show these readings of a stream's values, so many ticks after a window.
+#[derive(Drop)]
+pub struct Shown {
+    pub nodes: Vec<Node>,
+    pub readings: Vec<Reading>,
+    pub ticks: u8,
+}
+
+/// The sum of these terms of what nodes show, in registers of the least widths, numbered on from the first free number. After want of
+/// memory there may be more nodes.
 pub fn sum_tree<R: Ranges>(
     alloc: Global,
     net: &mut Net,
-    nodes: &[Node],
-    readings: &[Reading],
-    ticks: u8,
+    shown: &Shown,
     terms: &[Term],
     levels: u32,
     ranges: &R,
 ) -> Result<Tree, Memory>
     requires data_group { 1 ≤ net.old.group }
-    requires ready { IsReady (R.streams ranges.now) net.old.cells nodes.now readings.now terms.now levels }
-    ensures ok { IfOk result (λ s. AddsTree (R.streams ranges.now) net.old net.new nodes.now readings.now ticks terms.now levels s.held.items s.registers.items s.root) }
+    requires ready { IsReady (R.streams ranges.now) net.old.cells shown.now.nodes.items shown.now.readings.items terms.now levels }
+    ensures ok { IfOk result (λ s. AddsTree (R.streams ranges.now) net.old net.new shown.now.nodes.items shown.now.readings.items shown.now.ticks terms.now levels s.held.items s.registers.items s.root) }
     ensures extends { Extends net.old.cells net.new.cells }
     ensures group { net.new.group ≡ net.old.group }
 {
-    let leaves = leaves_of(alloc, nodes, terms)?;
-    let held = tree_held(alloc, readings, ticks, terms, levels, ranges)?;
+    let leaves = leaves_of(alloc, shown.nodes.as_slice(), terms)?;
+    let readings = shown.readings.as_slice();
+    let held = tree_held(alloc, readings, shown.ticks, terms, levels, ranges)?;
     let widths = widths_of(alloc, held.as_slice())?;
     let sum = tree(alloc, net, leaves.as_slice(), levels, widths.as_slice())?;
     Ok(Tree {

@@ -9,7 +9,7 @@ ghost use Rattle.symmetric_fir.specs.Front.{AddsSums};
 use crate::front::{Front, add_front};
 use crate::mirror::Mirror;
 use crate::pairs::{Pairs, pairs_of};
-use fir_tree::{Held, Readers, Reading, Tree, sum_tree};
+use fir_tree::{Held, Readers, Reading, Shown, Tree, sum_tree};
 use mr_values::Memory;
 use net_graph::{Net, Node};
 use signed_digit::terms;
@@ -112,16 +112,12 @@ impl<const ANTI: usize> Mirror<ANTI> {
         )?;
         let readings = joined_readings(alloc, &found)?;
         let terms = terms(alloc, found.firsts.as_slice(), 1, 0)?;
-        let tree = sum_tree(
-            alloc,
-            net,
-            nodes.as_slice(),
-            readings.as_slice(),
-            1,
-            terms.as_slice(),
-            self.levels,
-            ranges,
-        )?;
+        let shown = Shown {
+            nodes,
+            readings,
+            ticks: 1,
+        };
+        let tree = sum_tree(alloc, net, &shown, terms.as_slice(), self.levels, ranges)?;
         let sums = joined(alloc, front, tree)?;
         Ok(sums)
     }
