@@ -1,0 +1,9 @@
+pub mod Reading
+pub mod Placed
+pub mod Form
+pub mod Listed
+pub mod Held
+pub mod Peaks
+pub mod Cutting
+pub mod Readers
+pub mod Sums
