@@ -20,6 +20,3 @@ mod words;
 pub use fault::{Fault, FileKind};
 pub use mr_values::HostCall;
 pub use tool::{Outcome, filter_tool};
-
-#[cfg(test)]
-mod tests;

@@ -4,6 +4,3 @@
 mod reader;
 
 pub use reader::read_text;
-
-#[cfg(test)]
-mod tests;

@@ -18,6 +18,3 @@ pub use accept::check_plan;
 pub use facts::{Facts, GroupFacts};
 pub use fault::{CostWhich, LimitWhich, PlanFault};
 pub use group::{FirFilter, PlanGroup, split_group};
-
-#[cfg(test)]
-mod tests;

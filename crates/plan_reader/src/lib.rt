@@ -18,6 +18,3 @@ pub use plan_texts::{PlanText, TapFile, TapFiles};
 pub use printing::plan_text;
 pub use reading::read_plan;
 pub use tap_rows::read_taps;
-
-#[cfg(test)]
-mod tests;

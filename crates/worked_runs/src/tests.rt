@@ -1,9 +1,9 @@
-//! Files in pieces: a million samples, of which the program never holds more than a piece, and pieces of any size.
+//! A million samples, of which the program never holds more than a piece.
 
 ghost use Rattle.std.specs.Prelude.{◌≡◌, length};
 
 use filter_core::filter_tool;
-use mr_values::{Failed, FaultCounts, Host, MemoryHost, OutFail};
+use mr_values::{Failed, FaultCounts, Host, OutFail};
 use std::alloc::Global;
 use std::test::Fail;
 
@@ -116,85 +116,5 @@ fn runs_a_million_samples(rt: HostRuntime) -> Result<(), Fail> {
     assert_eq!(rt; host.greatest_room, 65_536);
     assert!(rt; host.greatest_piece > 0 && host.greatest_piece <= 65_536);
     assert_eq!(rt; host.sum, 3_999_996);
-    Ok(())
-}
-
-const TEXT: &[u8] = b"module t (input clk, rst, ce, input signed [3:0] in_data,
-          output out_valid, output signed [4:0] out_data);
-  reg signed [3:0] a;
-  reg v;
-  wire signed [4:0] y;
-  assign y = in_data + a;
-  assign out_valid = v;
-  assign out_data = y;
-  always @(posedge clk)
-    if (rst) begin a <= 4'sh0; v <= 1'h0; end
-    else if (ce) begin a <= in_data; v <= 1'h1; end
-endmodule
-";
-
-// However the files are cut, the outputs are the same.
-#[test]
-fn runs_in_any_pieces(rt: HostRuntime) -> Result<(), Fail> {
-    let alloc = rt.alloc();
-    for size in [1usize, 7, 65_536] {
-        let mut host = MemoryHost::new(alloc);
-        host.set_piece(size);
-        host.add_file(
-            "three",
-            b"version = 1\nwidth = 4\n[[element]]\nkind = \"filter\"\ntaps = [1, 2, 3]\n",
-        )?;
-        host.add_file("samples", b"1\n0\n0\n0\n")?;
-        host.add_file(
-            "one",
-            b"version = 1\nwidth = 4\n[[element]]\nkind = \"filter\"\ntaps = [1]\n",
-        )?;
-        host.add_file("wide", b"1\n2\n3\n8\n")?;
-        host.add_file("text", TEXT)?;
-        host.add_file(
-            "stimulus",
-            b"1 0 0\n0 1 -8\n0 0 5\n0 1 -8\n1 1 3\n0 1 7\n0 1 7\n",
-        )?;
-        for (line, status, lines) in [
-            ("run three samples out", 0, "1\n2\n3\n0\n"),
-            ("run one wide out", 31, "1\n"),
-            ("sim text stimulus out", 0, "3 1 -16\n6 1 14\n"),
-        ] {
-            let outcome = filter_tool(alloc, &words(alloc, line)?, &mut host);
-            assert_eq!(rt; outcome.status, status);
-            assert_eq!(rt; host.file("out"), Some(lines.as_bytes()));
-        }
-    }
-    Ok(())
-}
-
-// So many times the same line.
-fn repeated(alloc: Global, line: &[u8], count: usize) -> Result<Vec<u8>, Fail> {
-    let mut lines = Vec::new(alloc);
-    for _turn in 0..count {
-        lines.extend_from_slice(line)?;
-    }
-    Ok(lines)
-}
-
-// A thousand samples of -8 through two moving sums of two values, every second of which is kept.
-#[test]
-fn decimates_in_any_pieces(rt: HostRuntime) -> Result<(), Fail> {
-    let alloc = rt.alloc();
-    let samples = repeated(alloc, b"-8\n", 1_000)?;
-    let mut lines = repeated(alloc, b"-8\n", 1)?;
-    lines.extend_from_slice(&repeated(alloc, b"-32\n", 499)?)?;
-    for size in [1usize, 7, 65_536] {
-        let mut host = MemoryHost::new(alloc);
-        host.set_piece(size);
-        host.add_file(
-            "halved",
-            b"version = 1\nwidth = 4\n[[element]]\nkind = \"cic_down\"\nfactor = 2\nstages = 2\n",
-        )?;
-        host.add_file("samples", &samples)?;
-        let outcome = filter_tool(alloc, &words(alloc, "run halved samples out")?, &mut host);
-        assert_eq!(rt; outcome.status, 0);
-        assert_eq!(rt; host.file("out"), Some(lines.as_slice()));
-    }
     Ok(())
 }
