@@ -129,7 +129,7 @@ module _ (ticks : ℕ) (some_ticks : 0 < ticks) (g : Group) (t : Tally) (s : Spr
   near_next : next.reach ≤ 2 ^ 20
   near_next = least-product next.classes next.reach (2 ^ 20) (subst (λ (n : ℕ). 0 < n) (sym same_classes) some_classes) costs.response
 
-  round_next : after_it.step ≤ 2 ^ 24
+  pub round_next : after_it.step ≤ 2 ^ 24
   round_next =
       let times : next.classes * period_after g period ≡ after_it.step * ticks = ap (λ (n : ℕ). n * period_after g period) same_classes ∙ even_next in
       let most : after_it.step * ticks / ticks ≤ 2 ^ 24 = subst (λ (n : ℕ). n / ticks ≤ 2 ^ 24) times costs.cycle in

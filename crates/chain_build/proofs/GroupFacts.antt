@@ -1,5 +1,5 @@
 -- A group as a stage does to a sequence what its elements do.
-use Rattle.std.proofs.Common.{◌≡◌, ℕ, ◌+◌, ◌-◌, ◌*◌, ◌/◌, refl, sym, ◌∙◌, ap, arith, subst, List, [], ◌∷◌, ℤ, pos, ◌+ℤ◌, ◌-ℤ◌, ◌*ℤ◌, Option, None, Some, true}
+use Rattle.std.proofs.Common.{◌≡◌, ℕ, ◌+◌, ◌-◌, ◌*◌, ◌/◌, ◌<◌, refl, sym, ◌∙◌, ap, arith, subst, List, [], ◌∷◌, ℤ, pos, ◌+ℤ◌, ◌-ℤ◌, ◌*ℤ◌, Option, None, Some, true}
 use Rattle.std.specs.Prelude.{unsigned_abs, unwrap_or}
 use Rattle.std.proofs.Math.Path.{fun_ext}
 use Rattle.std.proofs.lemmas.Int.{ints}
@@ -16,6 +16,7 @@ use Rattle.mr_values.specs.Sequence.{Sequence, up, down, filter}
 use Rattle.mr_values.specs.Value.{chain}
 use Rattle.mr_values.specs.Timing.{Group, Fir, DownCic, UpCic, Rounding, Stream, up_factor, down_factor, group_delay, form_delay, form_of, taps_of}
 use Rattle.plan_check.specs.Amounts.{magnitude}
+use Rattle.plan_check.specs.Groups.{IsGroup}
 use Rattle.plan_laws.proofs.Reach.{apply_group, optional, filter_by}
 use Rattle.rounding_stage.specs.Rounding.{rounding_facts}
 use Rattle.stage_law.specs.Facts.{StageFacts}
@@ -91,3 +92,10 @@ plain-carries (Fir u f d) facts plain h = ap (λ (e : StageFacts). carries_uncut
 plain-carries (DownCic factor stages delay) facts plain h = ap (λ (e : StageFacts). carries_uncut e.kind) h
 plain-carries (UpCic factor stages delay) facts plain h = ap (λ (e : StageFacts). carries_uncut e.kind) h
 plain-carries (Rounding shift mode) facts plain h = absurd plain
+
+-- a group takes a value for each that it gives, or more
+pub some-down : (g : Group) (facts : StageFacts) → IsFactsOf g facts → IsGroup g → 0 < facts.down
+some-down (Fir u f d) facts own limits = let same = own.down in let low = limits.down_low in omega (arith, same, low)
+some-down (DownCic factor stages delay) facts own limits = let same = own.down in let low = limits.factor_low in omega (arith, same, low)
+some-down (UpCic factor stages delay) facts own limits = let same = own.down in omega (arith, same)
+some-down (Rounding shift mode) facts own limits = let same = own.down in omega (arith, same)

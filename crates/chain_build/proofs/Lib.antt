@@ -19,6 +19,7 @@ pub mod RegistersSoFar
 pub mod StepLemmas
 pub mod StepAt
 pub mod SampleBounds
+pub mod Rounds
 pub mod Measures
 pub mod CostLimits
 pub mod PeakLists

@@ -24,6 +24,7 @@ use Rattle.chain_build.specs.Built.{kind_of, rounds, has_rounding}
 use Rattle.chain_build.specs.Linear.{LinearRegister, linear, linear_from, prefix_range, group_registers}
 use Rattle.chain_build.specs.Peaks.{AreKept, IsKeptPeak, AddsPeaks, ArePeaksOf, HasGroupPeaks, keeps}
 use Rattle.chain_build.specs.Prefixes.{streams_before, elements_before}
+use Rattle.chain_build.proofs.GroupFacts.{facts-is, some-down}
 use Rattle.chain_build.proofs.ExactPrefixes.{prefix-linear, prefix-tells}
 use Rattle.chain_build.proofs.Pace.{pace_all, at_once, extent-pace}
 use Rattle.chain_build.proofs.PeakPlaces.{peaks-of, ArePeaksOf-none, ArePeaksOf-append, ArePeaksOf-later}
@@ -32,7 +33,7 @@ use Rattle.chain_build.proofs.RegisterLemmas.{needed-member}
 use Rattle.chain_build.proofs.RegistersSoFar.{coming, coming-none, linear_from-more, linear_from-none, own_registers}
 use Rattle.chain_build.proofs.Roundings.{has_rounding-more}
 use Rattle.chain_build.proofs.SoFar.{SoFar, SoFar-all, SoFar-none, balanced, head_walk, is_built_head}
-use Rattle.chain_build.proofs.SoonRead.{group-every, reads-group}
+use Rattle.chain_build.proofs.SoonRead.{reads-group}
 use Rattle.chain_build.proofs.StepLemmas.{TellsOwn, linear_fir, tells_own}
 use Rattle.chain_build.proofs.Taking.{exact_streams, taken-is}
 
@@ -150,8 +151,9 @@ module _ {plan : Plan} {old net mid new : NetView} {from last : Stream} {rest : 
       (λ i r s there needed.
       let m = needed-member (prefix_range W at_front) r.sums s (nat_eq (bits_of (prefix_range W at_front) r.sums) 1) needed in
       let timely = registers.timely i m.place r s (ap (λ (rs : List StageRegister). slice_get rs i) list ∙ there) m.there in
-      reads-group plan at_front front accepted none own_linear (prefixed plan.elements front (groups rest) so.parts) g (groups others) (so.parts ∙ ap (λ (gs : List Group). front ++ gs) split.parts) adds.facts adds.has_facts linear s.form s.class
-      (group-every g so.stream.period i r there m.place s m.there) timely.short)
+      let own = facts-is g adds.facts (is_built_head so split) adds.has_facts in
+      let some = some-down g adds.facts own split.within in
+      reads-group plan at_front front accepted none own_linear (prefixed plan.elements front (groups rest) so.parts) g (groups others) (so.parts ∙ ap (λ (gs : List Group). front ++ gs) split.parts) adds.facts adds.has_facts own.up own.down some linear last.period s timely)
 
   own_are : (b : Bool) → has_rounding front ≡ b → (h : Group) → g ≡ h → ArePeaksOf W (size plan.ticks) plan.elements new.cells (added_registers (has_rounding front) W plan.elements number (sizes front) so.stream g) peaks.own
   own_are true is h same = unkept (ap (λ (b : Bool). keeps b g) (rounded_is ∙ is)) (ap (λ (b : Bool). added_registers b W plan.elements number (sizes front) so.stream g) is)

@@ -7,8 +7,8 @@ use Rattle.mr_values.specs.declared.plan.Element.{Element}
 use Rattle.mr_values.specs.Timing.{ceil_div}
 use Rattle.mr_values.specs.Value.{size, chain}
 use Rattle.impulse_phase.specs.Reach.{extent}
-use Rattle.impulse_phase.specs.Response.{Response, responses, full_cycle, AreLinear}
-use Rattle.impulse_phase.proofs.Prefix.{prefix-has}
+use Rattle.impulse_phase.specs.Response.{Response, responses, full_cycle, common, AreLinear}
+use Rattle.impulse_phase.proofs.Prefix.{prefix-has, common-turns}
 use Rattle.impulse_phase.proofs.Reach.{prefix-extent, factor-le}
 use Rattle.impulse_phase.proofs.Steps.{recurs-times}
 use Rattle.stage_law.specs.declared.ranges.Class.{Class}
@@ -83,33 +83,31 @@ module _ (es : List Element) (linear : AreLinear es) where
       let far : count ≤ n + 2 * (full_cycle es).classes = omega (arith, few, some) in
       omega (arith, ints, newest-later count (n + 2 * (full_cycle es).classes) far, newest-rounds n 2, newest-most n most room)
 
-  -- an index that comes soon after so many reads few samples more
-  pub read-soon : (count most reach index : ℕ) → newest count ≤ℤ pos most → index ≤ count + (full_cycle es).classes * (reach / (full_cycle es).step + 1) + (full_cycle es).classes
-      → newest index ≤ℤ pos (most + reach + 2 * (full_cycle es).step)
-  read-soon count most reach index few soon =
-      let rounds = reach / (full_cycle es).step + 2 in
+  -- an index that comes so many rounds after so many indices reads few samples more
+  pub read-soon : (count most reach turns index : ℕ) → newest count ≤ℤ pos most → index ≤ count + (full_cycle es).classes * (reach / (full_cycle es).step + 1) + turns * (full_cycle es).classes
+      → newest index ≤ℤ pos (most + reach + (full_cycle es).step + turns * (full_cycle es).step)
+  read-soon count most reach turns index few soon =
+      let rounds = reach / (full_cycle es).step + 1 + turns in
       let far : index ≤ count + rounds * (full_cycle es).classes = omega (arith, soon) in
-      let steps : rounds * (full_cycle es).step ≤ reach + 2 * (full_cycle es).step = omega (arith, whole-below reach (full_cycle es).step) in
+      let steps : rounds * (full_cycle es).step ≤ reach + (full_cycle es).step + turns * (full_cycle es).step = omega (arith, whole-below reach (full_cycle es).step) in
       omega (arith, ints, newest-later index (count + rounds * (full_cycle es).classes) far, newest-rounds count rounds, few, steps)
 
 pub size-most : (z : ℤ) (most : ℕ) → z ≤ℤ pos most → size z ≤ most
 size-most (pos n) most h = omega (arith, ints, h)
 size-most (negsuc n) most h = omega arith
 
--- a class of every index falls into all classes
-finer-every : (classes : ℕ) → finer_classes classes 1 * 1 ≡ classes
-finer-every classes = let whole : classes / 1 ≡ classes = omega (arith, div-add-mod' classes 1, mod_below classes 1 (omega arith)) in omega (arith, whole)
-
 -- so many samples at the most
 pub few-samples : (es : List Element) (form : List ℤ) (class : Class) (count index : ℕ) → AreLinear es → ReadsFew es form class → index ≤ soon_after es form class → count ≤ suc (size (responses es (pos index)).newest) → count ≤ 2 ^ 27
 few-samples es form class count index linear reads soon few =
     let classes = (full_cycle es).classes in
-    let rounds : finer_classes classes class.modulus * class.modulus ≡ classes = ap (λ (m : ℕ). finer_classes classes m * m) reads.every ∙ finer-every classes in
-    let near = read-soon es linear (length form) (2 ^ 20 + 2 * (full_cycle es).step) (extent es).reach index reads.behind (omega (arith, soon, rounds)) in
-    let most = size-most (responses es (pos index)).newest (2 ^ 20 + 2 * (full_cycle es).step + (extent es).reach + 2 * (full_cycle es).step) near in
+    let turns = class.modulus / common classes class.modulus in
+    let rounds : finer_classes classes class.modulus * class.modulus ≡ turns * classes = common-turns classes class.modulus in
+    let near = read-soon es linear (length form) (2 ^ 20 + 2 * (full_cycle es).step) (extent es).reach turns index reads.behind (omega (arith, soon, rounds)) in
+    let most = size-most (responses es (pos index)).newest (2 ^ 20 + 2 * (full_cycle es).step + (extent es).reach + (full_cycle es).step + turns * (full_cycle es).step) near in
     let round = reads.round in
+    let turn = reads.turn in
     let reach = reads.reach in
-    omega (arith, few, most, round, reach)
+    omega (arith, few, most, round, turn, reach)
 
 -- as soon as is said of a shorter reach
 pub soon-than : (es : List Element) (form : List ℤ) (class : Class) (longest index before factors : ℕ) → AreLinear es → longest ≤ (extent es).reach → length form ≡ before + factors

@@ -2,7 +2,7 @@
 use Rattle.std.specs.Prelude.{◌≡◌, ℕ, ◌+◌, ◌*◌, ◌/◌, ◌^◌, ◌≤◌, List, length, ℤ, pos, ◌≤ℤ◌}
 use Rattle.mr_values.specs.declared.plan.Element.{Element}
 use Rattle.impulse_phase.specs.Reach.{extent}
-use Rattle.impulse_phase.specs.Response.{responses, full_cycle}
+use Rattle.impulse_phase.specs.Response.{responses, full_cycle, common}
 use Rattle.stage_law.specs.declared.ranges.Class.{Class}
 use Rattle.width_extreme.specs.Prefix.{finer_classes}
 
@@ -11,10 +11,10 @@ abbrev pub soon_after : List Element → List ℤ → Class → ℕ
 soon_after elements form class =
     length form + (full_cycle elements).classes * ((extent elements).reach / (full_cycle elements).step + 1) + finer_classes (full_cycle elements).classes class.modulus * class.modulus
 
--- The sum is one at every index. A round of the classes takes few samples, a value depends on few, and few stand before as many indices as
--- the form has weights.
+-- A round of the classes takes few samples, and so does a round of them together with the sum's own. A value depends on few, and few stand
+-- before as many indices as the form has weights.
 pub record ReadsFew (elements : List Element) (form : List ℤ) (class : Class) : Type 0 where
-  pub every : class.modulus ≡ 1
   pub round : (full_cycle elements).step ≤ 2 ^ 24
+  pub turn : class.modulus / common (full_cycle elements).classes class.modulus * (full_cycle elements).step ≤ 2 ^ 24
   pub reach : (extent elements).reach ≤ 2 ^ 20
   pub behind : (responses elements (pos (length form))).newest ≤ℤ pos (2 ^ 20 + 2 * (full_cycle elements).step)

@@ -70,6 +70,7 @@ pub(crate) fn emit_stage<S: Stage, R: Ranges>(
     requires unused { IsUnused net.old.cells net.old.group }
     requires early { from.offset < 2 ^ 31 }
     requires takes { S.takes stage.now from.period }
+    requires admits { S.admits stage.now (R.streams ranges.now) }
     requires room { HasRoom (R.streams ranges.now) (S.facts stage.now).gain }
     ensures realises { IfOk result (λ a. Realises (S.facts stage.now) (R.streams ranges.now) net.old net.new from a.emitted) }
     ensures kind { IfOk result (λ a. a.cost.kind ≡ (S.facts stage.now).kind) }

@@ -89,6 +89,8 @@ impl<const N: usize, const D: usize> Stage for CicDown<N, D> {
 
     ghost takes = { λ s period. TakesDown period };
 
+    ghost admits = { λ s streams. Unit {0} };
+
     fn kind(&self) -> Kind {
         Kind::CicDown
     }
@@ -185,6 +187,8 @@ impl<const N: usize, const D: usize> Stage for CicUp<N, D> {
     ghost facts = { λ s. cic_up_facts s.factor N D };
 
     ghost takes = { λ s period. TakesUp s.factor period };
+
+    ghost admits = { λ s streams. Unit {0} };
 
     fn kind(&self) -> Kind {
         Kind::CicUp

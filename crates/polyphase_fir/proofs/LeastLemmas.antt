@@ -1,9 +1,11 @@
 -- The registers of a filter are those of its list, and have the least widths.
-use Rattle.std.proofs.Common.{◌≡◌, ℕ, zero, suc, ◌+◌, ◌-◌, ◌*◌, ◌<◌, ◌≤◌, max, List, [], ◌∷◌, ◌++◌, length, map, refl, sym, ◌∙◌, ap, arith, inl, inr, subst, ◌⊎◌, ℤ, pos, ◌-ℤ◌, Some, slice_get}
+use Rattle.std.proofs.Common.{◌≡◌, ℕ, zero, suc, ◌+◌, ◌-◌, ◌*◌, ◌/◌, ◌<◌, ◌≤◌, max, List, [], ◌∷◌, ◌++◌, length, map, refl, sym, ◌∙◌, ap, arith, inl, inr, subst, ◌⊎◌, ℤ, pos, ◌-ℤ◌, Some, slice_get}
 use Rattle.std.proofs.lemmas.Bool.{cases_lt}
 use Rattle.std.proofs.lemmas.Int.{ints}
 use Rattle.std.proofs.lemmas.List.{map-append, length-map}
 use Rattle.std.proofs.lemmas.Option.{slice_get_within}
+use Rattle.std.proofs.lemmas.Nat.{div-add-mod'}
+use Rattle.std.proofs.lemmas.Nat.Gcd.{mod-eq-zero_of_dvd}
 use Rattle.mr_values.proofs.Polyphase.{weighted_sum-same}
 use Rattle.net_graph.specs.declared.cell.Cell.{Cell}
 use Rattle.net_graph.specs.declared.cell.Node.{Node}
@@ -16,6 +18,8 @@ use Rattle.net_graph.proofs.CutLemmas.{IsCut-all, IsCut-control}
 use Rattle.pipeline_balance.specs.Gate.{HasTaken}
 use Rattle.pipeline_balance.specs.Numbered.{IsCounted, LeavesFree, IsTouched, name_of}
 use Rattle.pipeline_balance.proofs.TakenLemmas.{taken}
+use Rattle.plan_check.specs.Costs.{gcd}
+use Rattle.plan_check.proofs.Divisors.{IsGcd-gcd}
 use Rattle.stage_law.specs.Facts.{StageFacts}
 use Rattle.stage_law.specs.Least.{IsKeptWhole, HoldsSum, HasStageRegister, IsListed, IsTimely, HasRegisters, named_peak}
 use Rattle.stage_law.specs.Realises.{IsUnused}
@@ -72,6 +76,12 @@ stage_register streams cells from depth levels group kind number s node positive
   kept_whole = kept_whole streams cells from s.form d.ticks node positive d.holds;
 }
 
+-- all that a stage takes in a round, as values of every index
+one_round : (up down : ℕ) → down ≡ gcd up down * (down / gcd up down * 1)
+one_round up down =
+    let whole = mod-eq-zero_of_dvd (gcd up down) (IsGcd-gcd up down).1 in
+    omega (arith, div-add-mod' down (gcd up down), whole)
+
 timely : (facts : StageFacts) (streams : Streams) (cells : List Cell) (from : Stream) (depth levels group : ℕ) (kind : NameKind) (number : ℕ) (s : HeldSum) (node : Node) → IsDue streams cells from depth levels group (name_of group kind number) s node
     → suc levels ≤ from.period + facts.delay from.period → depth ≤ facts.longest → magnitudes s.form ≤ max 1 (2 * facts.gain) → IsTimely facts from.period s
 timely facts streams cells from depth levels group kind number s node d soon few small =
@@ -83,8 +93,10 @@ timely facts streams cells from depth levels group kind number s node d soon few
       soon = omega (arith, lag, early, soon);
       short = omega (arith, short, few);
       small = small;
-      times = facts.down;
-      divides = subst (λ (c : Class). facts.down ≡ facts.down * c.modulus) (sym d.is_class) (omega arith);
+      shared = gcd facts.up facts.down;
+      greatest = IsGcd-gcd facts.up facts.down;
+      times = facts.down / gcd facts.up facts.down;
+      divides = subst (λ (c : Class). facts.down ≡ gcd facts.up facts.down * (facts.down / gcd facts.up facts.down * c.modulus)) (sym d.is_class) (one_round facts.up facts.down);
     }
 
 -- ---- all registers

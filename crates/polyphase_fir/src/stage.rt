@@ -51,6 +51,8 @@ impl Stage for Polyphase {
 
     ghost takes = { λ p period. TakesPeriod p.rates.up p.rates.down period };
 
+    ghost admits = { λ p streams. Unit {0} };
+
     fn kind(&self) -> Kind {
         Kind::Parallel
     }

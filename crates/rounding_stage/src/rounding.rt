@@ -137,6 +137,8 @@ impl Stage for Rounding {
 
     ghost takes = { λ s period. rounding_takes period };
 
+    ghost admits = { λ s streams. Unit {0} };
+
     fn kind(&self) -> Kind {
         Kind::Rounding
     }

@@ -1,5 +1,6 @@
 -- The registers of a linear stage in its net: each holds its sums, in the run as uncut, and has the least width for them.
 use Rattle.std.specs.Prelude.{◌≡◌, ℕ, ◌+◌, ◌*◌, ◌<◌, ◌≤◌, max, ℤ, pos, List, length, map, Some, slice_get}
+use Rattle.std.specs.Int.{IsGcd}
 use Rattle.mr_values.specs.Sequence.{Sequence, filter}
 use Rattle.net_graph.specs.declared.cell.Cell.{Cell}
 use Rattle.net_graph.specs.declared.cell.Node.{Node}
@@ -50,15 +51,18 @@ pub record IsListed (registers : List StageRegister) (kind : NameKind) (number :
   pub is_kind : r.kind ≡ kind
   pub is_number : r.number ≡ number
 
--- a sum is due soon after its value, of few values, no greater than twice what the stage gives, or a single value, and at indices that the
--- stage takes anew for each of its values
+-- A sum is due soon after its value, of few values, no greater than twice what the stage gives, or a single value. The modulus of its class
+-- divides `down` over the greatest common divisor of `up` and `down`: so many values of the stream pass in a round of the stage's phases.
+-- Crochiere and Rabiner, Multirate Digital Signal Processing, 3.3.
 pub record IsTimely (facts : StageFacts) (period : ℕ) (s : HeldSum) : Type 0 where
   pub class : s.class.residue < s.class.modulus
   pub soon : s.lag ≤ period + facts.delay period
   pub short : length s.form ≤ facts.longest
   pub small : magnitudes s.form ≤ max 1 (2 * facts.gain)
+  pub shared : ℕ
+  pub greatest : IsGcd facts.up facts.down shared
   pub times : ℕ
-  pub divides : facts.down ≡ times * s.class.modulus
+  pub divides : facts.down ≡ shared * (times * s.class.modulus)
 
 -- a peak with the name of its register
 abbrev pub named_peak : List Cell → Peak → NamedPeak

@@ -4,7 +4,7 @@ ghost use Rattle.std.specs.Prelude.{◌≡◌, ℕ, ◌<◌, ◌≤◌, ◌^◌,
 ghost use Rattle.net_graph.specs.Grow.{Extends};
 ghost use Rattle.net_graph.specs.declared.cell.Stream.{Stream};
 ghost use Rattle.stage_law.specs.Facts.{StageFacts};
-ghost use Rattle.stage_law.specs.Streams.{HasRoom};
+ghost use Rattle.stage_law.specs.Streams.{Streams, HasRoom};
 ghost use Rattle.stage_law.specs.Realises.{Realises, IsUnused};
 
 use crate::ranges::{Class, Ranges, WeightedSum};
@@ -66,6 +66,9 @@ pub trait Stage {
     /// Which streams the stage takes, by their period.
     ghost takes: { Self → ℕ → Type 0 };
 
+    /// Which streams it admits, by their values.
+    ghost admits: { Self → Streams → Type 0 };
+
     fn kind(&self) -> Kind
         ensures { result ≡ (facts self.now).kind };
 
@@ -96,6 +99,7 @@ pub trait Stage {
         requires unused { IsUnused net.old.cells net.old.group }
         requires early { from.offset < 2 ^ 31 }
         requires takes { takes self.now from.period }
+        requires admits { admits self.now (R.streams ranges.now) }
         requires room { HasRoom (R.streams ranges.now) (facts self.now).gain }
         ensures realises { IfOk result (λ e. Realises (facts self.now) (R.streams ranges.now) net.old net.new from e) }
         ensures extends { Extends net.old.cells net.new.cells }

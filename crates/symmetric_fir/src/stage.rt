@@ -16,6 +16,8 @@ impl<const ANTI: usize> Stage for Mirror<ANTI> {
 
     ghost takes = { λ m period. TakesPeriod period };
 
+    ghost admits = { λ m streams. Unit {0} };
+
     fn kind(&self) -> Kind {
         Kind::Symmetric
     }
