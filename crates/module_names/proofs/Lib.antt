@@ -5,3 +5,5 @@ pub mod Names
 pub mod Control
 pub mod Ports
 pub mod Outputs
+pub mod Registers
+mod Settles
