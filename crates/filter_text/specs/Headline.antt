@@ -1,5 +1,6 @@
 -- What the text of a plan has to show: each value of the chain at its tick, and nothing at any other tick.
-use Rattle.std.specs.Prelude.{◌≡◌, ℕ, zero, suc, ◌+◌, ◌-◌, ◌*◌, ◌≤◌, true, List, All, [], ◌∷◌, ◌++◌, length, map, take, drop, codes, Some, slice_get, ℤ, pos}
+use Rattle.std.specs.Prelude.{◌≡◌, ℕ, zero, suc, ◌+◌, ◌-◌, ◌*◌, ◌/◌, ◌%◌, ◌≤◌, ◌==◌, nat_le, Bool, true, ◌&&◌, List, All, [], ◌∷◌, ◌++◌, length, map, take, drop, codes, Some, slice_get, ℤ, pos}
+use Rattle.mr_values.specs.Sequence.{phase}
 use Rattle.mr_values.specs.Width.{FitsWidth, IsLeastWidth}
 use Rattle.mr_values.specs.Timing.{Group, ceil_div, groups}
 use Rattle.mr_values.specs.Value.{val}
@@ -28,6 +29,7 @@ use Rattle.module_names.specs.Outputs.{HasPlainOutputs}
 use Rattle.module_names.specs.Ports.{HasPorts}
 use Rattle.module_names.specs.Registers.{HasHeldBlocks, HasReset}
 use Rattle.module_shapes.specs.Shapes.{HasLinearShapes}
+use Rattle.shown_module.specs.Shown.{ShowsInEach}
 
 -- output n stands at the tick latency + n * period: so many outputs from one on, each with its tick
 abbrev pub outputs_from : ℕ → ℕ → (ℕ → ℤ) → ℕ → ℕ → List (ℕ × ℤ)
@@ -54,6 +56,19 @@ pub record ShowsChain (elements : List Element) (width ticks latency period : �
       → events_of (shapes_of d) (ports_of d) (before ++ reset ∷ after) settled 0 0 ≡ events_before d before settled ++ events_after d before after settled
   pub shows : (content : Values) (before after : List Cycle) (reset : Cycle) (settled : List Values) → IsRunFrom d width content before after reset settled
       → map pair_of (events_after d before after settled) ≡ outputs_within latency period (λ n. val elements (samples_in width ticks after) (pos n)) (ticks_in after)
+
+-- whether output n stands at this tick for some n
+abbrev pub is_output_tick : ℕ → ℕ → ℕ → Bool
+is_output_tick latency period t = nat_le latency t && ((t - latency) % period == 0)
+
+-- the output there, over the numbers at all ticks, of which every so many is a sample
+abbrev pub output_at_tick : List Element → ℕ → ℕ → ℕ → List ℤ → ℕ → ℤ
+output_at_tick elements ticks latency period numbers t = val elements (phase ticks 0 numbers) (pos ((t - latency) / period))
+
+-- In each cycle after the last reset cycle, whatever `ce` is, `out_valid` isn't 0 exactly where an output stands at the tick that comes next,
+-- and there `out_data` is that output.
+abbrev pub ShowsOutputs : List Element → ℕ → ℕ → ℕ → ℕ → Design → Type 0
+ShowsOutputs elements width ticks latency period = ShowsInEach width (is_output_tick latency period) (output_at_tick elements ticks latency period)
 
 -- the number of the name of the output register
 abbrev pub output_register : Design → ℕ
@@ -98,7 +113,7 @@ HaveShapes number [] d = Unit {0}
 HaveShapes number (g ∷ gs) d = (has_linear_shape (kind_of g) ≡ true → HasLinearShapes d number) × HaveShapes (number + 1) gs d
 
 -- The module passes every check, from any content it runs over any cycles, cut and uncut, its output has the least width for the range
--- of the chain's values, and it shows the chain; its output register has each value at its tick. Where no group rounds, its output has the
+-- of the chain's values, and it shows the chain, by its outputs in every cycle; its output register has each value at its tick. Where no group rounds, its output has the
 -- least width that holds the chain's values, and its output register is never cut. Its linear registers are those of the plan, none of
 -- them ever cut after a reset and each of the least width. Its groups cost what they cost as stages, with at most one adder between two
 -- registers, and their statements have the shapes of their forms. Each always block sets its register to 0 under `rst`, and else gives it
@@ -112,6 +127,7 @@ pub record IsModuleOf (elements : List Element) (width ticks latency period : �
   pub one_uncut : HasOneUncutRun design
   pub output : IsLeastWidth (output_range width ticks elements).lo (output_range width ticks elements).hi ((shapes_of design).width (ports_of design).out_data)
   pub shows : ShowsChain elements width ticks latency period design
+  pub outputs : ShowsOutputs elements width ticks latency period design
   pub keeps : KeepsOutput elements width ticks latency period design
   pub least_output : ArePlainGroups (groups elements) → IsLeastOutput elements width ((shapes_of design).width (ports_of design).out_data)
   pub uncut : ArePlainGroups (groups elements) → KeepsWhole elements width ticks latency period design

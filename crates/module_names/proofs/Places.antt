@@ -66,7 +66,7 @@ module _ (d e : Design) (same : IsSameButPlaces d e) where
   same_input : (shapes_of d).width (ports_of d).in_data ≡ (shapes_of e).width (ports_of e).in_data
   same_input = ap (λ (s : Shapes). s.width (ports_of d).in_data) (same_shapes d e same) ∙ ap (λ (p : Ports). (shapes_of e).width p.in_data) (same_ports d e same)
 
-  same_run : (content : Values) (before after : List Cycle) (reset : Cycle) (settled : List Values) → IsRunAfterReset d content before after reset settled → IsRunAfterReset e content before after reset settled
+  pub same_run : (content : Values) (before after : List Cycle) (reset : Cycle) (settled : List Values) → IsRunAfterReset d content before after reset settled → IsRunAfterReset e content before after reset settled
   same_run content before after reset settled r = record {
     run = subst (λ (p : Ports). IsRun (circuit_of e) content (map (inputs_of p) (before ++ reset ∷ after)) settled) (same_ports d e same)
         (subst (λ (c : Circuit). IsRun c content (map (inputs_of (ports_of d)) (before ++ reset ∷ after)) settled) (same_circuits d e same) r.run);

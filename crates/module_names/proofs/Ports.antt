@@ -25,7 +25,7 @@ use Rattle.net_module.proofs.Numbers.{IsThere, first_there}
 use Rattle.module_names.specs.Control.{IsRunAfterReset}
 use Rattle.module_names.specs.Ports.{output_name, HasPorts}
 use Rattle.module_names.proofs.OutputName.{output_register, output_number}
-use Rattle.module_names.proofs.Settles.{settled_in}
+use Rattle.net_module.proofs.Settles.{settled_in}
 
 module _ (cells : List Cell) (netlist : IsNetlist cells) (writable : IsWritable cells) where
   abbrev D : Design
