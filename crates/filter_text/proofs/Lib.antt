@@ -7,6 +7,7 @@ pub mod ChainShows
 pub mod OutputNumber
 pub mod UncutPlaces
 pub mod UncutOutput
+pub mod LeastOutput
 pub mod DepthText
 pub mod CountedText
 pub mod ShapesText

@@ -1,4 +1,4 @@
--- The names, the control, the ports and the outputs of a plan's module.
+-- The names, the control, the ports, the outputs and the registers of a plan's module.
 use Rattle.std.proofs.Common.{ℕ, List, length, subst}
 use Rattle.mr_values.specs.declared.plan.Element.{Element}
 use Rattle.mr_values.specs.Timing.{groups}
@@ -10,11 +10,13 @@ use Rattle.module_names.specs.Control.{HasControl}
 use Rattle.module_names.specs.Names.{HasNames}
 use Rattle.module_names.specs.Outputs.{HasPlainOutputs}
 use Rattle.module_names.specs.Ports.{HasPorts}
+use Rattle.module_names.specs.Registers.{HasHeldBlocks, HasReset}
 use Rattle.module_names.proofs.Control.{has_control}
 use Rattle.module_names.proofs.Names.{all_named}
 use Rattle.module_names.proofs.Outputs.{plain_outputs}
-use Rattle.module_names.proofs.Places.{control_kept, names_kept, outputs_kept, ports_kept}
+use Rattle.module_names.proofs.Places.{blocks_kept, control_kept, names_kept, outputs_kept, ports_kept, reset_kept}
 use Rattle.module_names.proofs.Ports.{has_ports}
+use Rattle.module_names.proofs.Registers.{has_reset, held_blocks}
 use Rattle.verilog_tree.specs.Tree.{Design}
 use Rattle.verilog_text.specs.Order.{IsSameButPlaces}
 use Rattle.chain_build.specs.ChainNet.{IsChainNet}
@@ -33,3 +35,9 @@ module _ {width ticks : ℕ} {elements : List Element} {cells : List Cell} {out_
 
   pub chain_outputs_plain : HasPlainOutputs d
   chain_outputs_plain = outputs_kept d (written_module cells) same (plain_outputs cells net.netlist)
+
+  pub chain_blocks : HasHeldBlocks d
+  chain_blocks = blocks_kept d (written_module cells) same (held_blocks cells net.netlist can)
+
+  pub chain_reset : HasReset d
+  chain_reset = reset_kept d (written_module cells) same (has_reset cells net.netlist can)

@@ -23,7 +23,7 @@ use Rattle.net_module.specs.Written.{IsWritable, is_register, kind_for, written_
 use Rattle.net_module.specs.Steps.{ticks_in, samples_of, RunsAfterReset}
 use Rattle.net_module.proofs.Along.{steps_as}
 use Rattle.net_module.proofs.Cycles.{wide_of, width_of, sign_of, signal_of, register_data}
-use Rattle.net_module.proofs.Outputs.{shows_as, signed_value-true}
+use Rattle.net_module.proofs.Outputs.{signed_value-true}
 use Rattle.chain_build.specs.ChainNet.{IsChainNet}
 use Rattle.uncut_module.proofs.Along.{steps_uncut}
 use Rattle.filter_text.specs.Runs.{IsRunFrom}
@@ -45,7 +45,7 @@ module _ {width ticks : ℕ} {elements : List Element} {cells : List Cell} {out_
   written = shapes_of (written_module cells)
 
   written_runs : (content : Values) (before after : List Cycle) (reset : Cycle) (settled : List Values) → IsRunFrom d width content before after reset settled → RunsAfterReset cells content before after reset settled
-  written_runs = of_written wide some net.positive net (shows_as cells net.netlist can) d same
+  written_runs = of_written narrow some net.positive net d same
 
   number_same : texts.number_of d text ≡ number
   number_same = rw (same.same_names) numbered

@@ -15,7 +15,8 @@ use Rattle.chain_build.specs.Extremes.{IsExtremeInput}
 use Rattle.chain_build.specs.Linear.{LinearRegister}
 use Rattle.filter_text.specs.Runs.{samples_in}
 use Rattle.filter_text.specs.Registers.{IsLinearRegister, ReadsSamples, IsExtremeOf}
-use Rattle.filter_text.proofs.ChainShows.{has_samples, signed_zero}
+use Rattle.shown_module.proofs.Data.{signed_zero}
+use Rattle.filter_text.proofs.ChainShows.{has_samples}
 
 -- ---- past the last
 

@@ -1,4 +1,4 @@
--- The output register of a plan's module is never cut where no group rounds.
+-- The output register of a plan's module has the chain's values at their ticks, and is never cut where no group rounds.
 use Rattle.std.proofs.Common.{◌≡◌, ℕ, ◌+◌, ◌*◌, ◌≤◌, List, length, take, Some, slice_get, ◌∙◌, ap, ℤ, pos, true}
 use Rattle.std.specs.Prelude.{codes}
 use Rattle.mr_values.specs.declared.plan.Element.{Element}
@@ -20,7 +20,7 @@ use Rattle.net_module.specs.Written.{has_kind, is_output_kind, is_register, writ
 use Rattle.net_module.specs.Steps.{ticks_in, samples_of}
 use Rattle.chain_build.specs.Built.{ArePlainGroups}
 use Rattle.chain_build.specs.ChainNet.{IsChainNet, ShowsValues}
-use Rattle.filter_text.specs.Headline.{output_register, KeepsOutput}
+use Rattle.filter_text.specs.Headline.{output_register, KeepsOutput, KeepsWhole}
 use Rattle.filter_text.specs.Runs.{samples_in, IsRunFrom}
 use Rattle.filter_text.proofs.ChainPlaces.{output_is}
 use Rattle.filter_text.proofs.ChainShows.{has_samples, samples_fit}
@@ -53,9 +53,11 @@ module _ {width ticks : ℕ} {elements : List Element} {cells : List Cell} {out_
         register_bits wide narrow some net out_q.place net.register.cell net.register.there registered (codes "out_q") output_there d same content before after reset settled runs run.0 run.1 j now at
         ∙ worth_is cut_all net.values after runs.fit run.0 run.1 n (ticks_in (take j after)) is
 
-    pub keeps_output : ArePlainGroups (groups elements) → KeepsOutput elements width ticks (latency width ticks elements) (last_stream width ticks elements).period d
-    keeps_output plain = record {
-      bits = bits_hold;
+    pub keeps_output : KeepsOutput elements width ticks (latency width ticks elements) (last_stream width ticks elements).period d
+    keeps_output = record { bits = bits_hold }
+
+    pub keeps_whole : ArePlainGroups (groups elements) → KeepsWhole elements width ticks (latency width ticks elements) (last_stream width ticks elements).period d
+    keeps_whole plain = record {
       whole = λ content before after reset settled runs begins uncut numbers n j now at is.
           let run = some_run cut_control IsCut-control cells (samples_of width after) net.netlist in
           register_whole wide narrow some net out_q.place net.register.cell net.register.there registered (codes "out_q") output_there d same content before after reset settled runs begins uncut numbers run.0 run.1 j now at

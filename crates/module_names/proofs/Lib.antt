@@ -1,7 +1,8 @@
 pub mod Places
 mod NodeNames
-mod OutputName
+pub mod OutputName
 pub mod Names
 pub mod Control
 pub mod Ports
 pub mod Outputs
+pub mod Registers

@@ -21,8 +21,16 @@ use Rattle.verilog_tree.specs.Names.{text_of, group_prefix, is_in_group}
 use Rattle.verilog_text.specs.Order.{AreNumbered}
 use Rattle.net_module.specs.Written.{IsWritable, nameless, text_for, node_text, node_texts, written_module}
 use Rattle.net_text.proofs.Writable.{in_order}
-use Rattle.module_names.specs.Names.{IsNameOf, of_port, of_output, of_control, of_group, HasNames}
+use Rattle.net_graph.specs.Name.{is_input, written_name}
+use Rattle.verilog_tree.specs.declared.tree.Kind.TheVariants.{Reg}
+use Rattle.verilog_tree.specs.Checks.{is_port}
+use Rattle.verilog_tree.specs.Names.{kind_of}
+use Rattle.net_module.specs.Written.{is_register, number_after, node_signal, node_signals, unless}
+use Rattle.net_module.proofs.Cycles.{register_data}
+use Rattle.net_module.proofs.NodeTexts.{node_text_of}
+use Rattle.module_names.specs.Names.{IsNameOf, of_port, of_output, of_control, of_group, IsRegisterText, HasNames}
 use Rattle.module_names.proofs.NodeNames.{named_from}
+use Rattle.module_names.proofs.Registers.{register_node}
 
 -- ---- texts
 
@@ -74,6 +82,63 @@ kind_named count Other named number group place (inr wire) le own = absurd wire
 kind_named count Table named number group place (inl register) le own = absurd register
 kind_named count Table named number group place (inr some) le own = of_group named some le (group_begins named (116 ∷ decimal number))
 
+-- ---- registers
+
+false_true : false ≡ true → ⊥
+false_true h = cc
+
+-- a node with a register's name is written by it
+kind_written : (kind : NameKind) (named number group place : ℕ) → IsRegisterKind kind named number → text_for (Some (record { group = named; kind = kind; number = number })) group place ≡ written_name (record { group = named; kind = kind; number = number })
+kind_written Control named number group place is = refl
+kind_written Window named number group place is = refl
+kind_written Copy named number group place is = refl
+kind_written PreAdder named number group place is = refl
+kind_written Other named number group place is = refl
+kind_written Output named number group place is = refl
+kind_written Table named number group place is = absurd is
+kind_written Valid named number group place is = absurd is
+
+-- a register has a name, and it is a register's
+register_named : (name : Option Name) (item : Option Item) → IsNamed name item → is_register item ≡ true → (own : Name) × (name ≡ Some own) × IsRegisterName own
+register_named None None named is = absurd (false_true is)
+register_named None (Some (Register next)) named is = absurd named
+register_named None (Some Input) named is = absurd (false_true is)
+register_named None (Some (Constant v)) named is = absurd (false_true is)
+register_named None (Some (Add a b)) named is = absurd (false_true is)
+register_named None (Some (Sub a b)) named is = absurd (false_true is)
+register_named None (Some (Shl a by)) named is = absurd (false_true is)
+register_named None (Some (Shr a by)) named is = absurd (false_true is)
+register_named None (Some (Mux on a b)) named is = absurd (false_true is)
+register_named None (Some (Equal a b)) named is = absurd (false_true is)
+register_named None (Some (Bits a high low)) named is = absurd (false_true is)
+register_named (Some name) None named is = absurd (false_true is)
+register_named (Some name) (Some (Register next)) named is = (name, refl, named)
+register_named (Some name) (Some Input) named is = absurd (false_true is)
+register_named (Some name) (Some (Constant v)) named is = absurd (false_true is)
+register_named (Some name) (Some (Add a b)) named is = absurd (false_true is)
+register_named (Some name) (Some (Sub a b)) named is = absurd (false_true is)
+register_named (Some name) (Some (Shl a by)) named is = absurd (false_true is)
+register_named (Some name) (Some (Shr a by)) named is = absurd (false_true is)
+register_named (Some name) (Some (Mux on a b)) named is = absurd (false_true is)
+register_named (Some name) (Some (Equal a b)) named is = absurd (false_true is)
+register_named (Some name) (Some (Bits a high low)) named is = absurd (false_true is)
+
+-- ---- signs
+
+-- the declarations of nodes are signed
+nodes_signed : (cells : List Cell) (first k : ℕ) (s : Signal) → slice_get (node_signals cells first) k ≡ Some s → s.signed ≡ true
+nodes_signed [] first k s at = absurd (cc)
+nodes_signed (x ∷ cells) first k s at = by (is_input x.item) k (λ j later. nodes_signed cells (number_after (is_input x.item) first) j s later) at
+  where
+    sign_is : (a b : Signal) → Some a ≡ Some b → a.signed ≡ true → b.signed ≡ true
+    sign_is a b e is = let same : a ≡ b = cc in ap (λ (t : Signal). t.signed) (sym same) ∙ is
+
+    by : (b : Bool) (k : ℕ) → ((j : ℕ) → slice_get (node_signals cells (number_after (is_input x.item) first)) j ≡ Some s → s.signed ≡ true)
+        → slice_get (unless b (node_signal x first) (node_signals cells (number_after (is_input x.item) first))) k ≡ Some s → s.signed ≡ true
+    by true k more at = more k at
+    by false zero more at = sign_is (node_signal x first) s at refl
+    by false (suc k) more at = more k at
+
 -- ---- declarations
 
 -- declarations in the order of their names
@@ -120,10 +185,38 @@ module _ (cells : List Cell) (netlist : IsNetlist cells) (writable : IsWritable 
       let place : 0 + w.place ≡ w.place = omega arith in
       subst (IsNameOf count) (sym (ap (λ (o : Option (List ℕ)). unwrap_or o []) there ∙ w.is_it ∙ ap (node_text w.cell) place)) (node_named w.place w.cell w.there)
 
+  register_text : (name : ℕ) → kind_of D name ≡ Some Reg → IsRegisterText count (text_of D name)
+  register_text name is =
+      let r = register_node cells netlist writable name is in
+      let own = register_named r.cell.name r.cell.item (netlist.well_formed.each r.place r.cell r.there).named r.register in
+      record {
+        name = own.0;
+        named = own.2;
+        low = named r.place r.cell own.0 r.there own.1;
+        written = ap (text_of D) r.number ∙ node_text_of cells r.place r.cell r.there (register_data r.cell.item r.register)
+            ∙ ap (λ (o : Option Name). text_for o r.cell.group r.place) own.1
+            ∙ kind_written own.0.kind own.0.group own.0.number r.cell.group r.place own.2;
+      }
+
+  port_apart : (a b : Signal) → Some a ≡ Some b → is_port a.kind ≡ true → is_port b.kind ≡ false → b.signed ≡ true
+  port_apart a b e port other = let same : a ≡ b = cc in absurd (false_true (sym other ∙ ap (λ (t : Signal). is_port t.kind) (sym same) ∙ port))
+
+  all_signed : (k : ℕ) (s : Signal) → slice_get D.signals k ≡ Some s → is_port s.kind ≡ false → s.signed ≡ true
+  all_signed zero s at other = port_apart _ s at refl other
+  all_signed (suc zero) s at other = port_apart _ s at refl other
+  all_signed (suc (suc zero)) s at other = port_apart _ s at refl other
+  all_signed (suc (suc (suc zero))) s at other = port_apart _ s at refl other
+  all_signed (suc (suc (suc (suc zero)))) s at other = port_apart _ s at refl other
+  all_signed (suc (suc (suc (suc (suc zero))))) s at other = port_apart _ s at refl other
+  all_signed (suc (suc (suc (suc (suc (suc k)))))) s at other = nodes_signed cells 7 k s at
+
   pub all_named : HasNames count D
   all_named =
       let order = in_order cells netlist writable in
       record {
+        own = refl;
+        registers = register_text;
+        signed = all_signed;
         each = λ k s at.
             let one = numbered_at 1 D.signals k s order.in_turn at in
             let number : s.name ≡ suc k = omega (arith, one) in

@@ -1,5 +1,5 @@
 -- The written module over lists of cycles.
-use Rattle.std.proofs.Common.{◌≡◌, ℕ, zero, suc, ◌+◌, Bool, true, false, cond, List, [], ◌∷◌, length, map, take, drop, get_or, Some, slice_get, ℤ, refl, sym, ◌∙◌, ap, arith, subst}
+use Rattle.std.proofs.Common.{◌≡◌, ℕ, zero, suc, ◌+◌, Bool, true, false, cond, List, [], ◌∷◌, ◌++◌, length, map, take, drop, get_or, Some, slice_get, ℤ, refl, sym, ◌∙◌, ap, arith, subst}
 use Rattle.std.proofs.lemmas.List.{map-append, length-map}
 use Rattle.mr_values.specs.Width.{pattern, signed}
 use Rattle.net_graph.specs.declared.cell.Cell.{Cell}
@@ -13,7 +13,9 @@ use Rattle.verilog_tree.proofs.Computes.{Holds}
 use Rattle.verilog_tree.proofs.Resets.{run_on}
 use Rattle.net_module.specs.Written.{IsWritable, is_register}
 use Rattle.net_module.specs.Steps.{HasNoReset, tick_data, ticks_in, samples_of, width_in, RunsAfterReset, StepsAs}
+use Rattle.net_module.proofs.ControlHolds.{control_holds}
 use Rattle.net_module.proofs.Cycles.{D, S, C, N, rests, resets, register_is_kept, nodes_hold, ticks, width_of}
+use Rattle.net_module.proofs.Settles.{settled_in}
 
 same_values : (v w : Values) → Some v ≡ Some w → v ≡ w
 same_values v w e = cc
@@ -169,5 +171,14 @@ steps_as cells netlist writable = record {
       let held = ((follows cells netlist writable content before after reset settled runs worth run).nodes j c now here on (sym (state.there j) ∙ at)).each place cell there in
       held.bits ∙ ap (λ (w : ℕ). pattern w (worth (0 + ticks_in (take j after)) place)) (width_of cells netlist writable place cell there)
       ∙ ap (λ (t : ℕ). pattern cell.width (worth t place)) (let e : 0 + ticks_in (take j after) ≡ ticks_in (take j after) = omega arith in e);
+  control = λ closed content before after reset settled runs worth run j now at place cell there is.
+      let state = after_reset cells netlist writable content before after reset settled runs worth run in
+      let x : ℕ → ℤ = samples_of (width_in cells) after in
+      let t = 0 + ticks_in (take j after) in
+      let held = (follows cells netlist writable content before after reset settled runs worth run).registers j now (sym (state.there j) ∙ at) in
+      let settled_here = settled_in (C cells netlist writable) content (map (inputs_of (ports_of (D cells netlist writable))) (before ++ reset ∷ after)) settled runs.run (length before + 1 + j) now at in
+      (control_holds cells netlist writable closed x worth run t now settled_here held.each place (record { cell = cell; there = there; control = is })).bits
+      ∙ ap (λ (w : ℕ). pattern w (worth t place)) (width_of cells netlist writable place cell there)
+      ∙ ap (λ (n : ℕ). pattern cell.width (worth n place)) (let e : 0 + ticks_in (take j after) ≡ ticks_in (take j after) = omega arith in e);
   rests = λ content now c settling off idle name. rests cells netlist writable c content now settling off idle name;
 }

@@ -23,7 +23,7 @@ use Rattle.verilog_tree.specs.Tree as tree
 use Rattle.verilog_tree.specs.Tree.{Tree, Action, Assignment, Design}
 use Rattle.verilog_tree.specs.Meaning.{Shapes, Values, assigned, bit_of}
 use Rattle.verilog_tree.specs.Names.{shapes_of, declaration_in}
-use Rattle.verilog_tree.specs.Circuit.{Driver, Circuit, IsSource, IsSettling, with_inputs, next}
+use Rattle.verilog_tree.specs.Circuit.{Driver, Circuit, IsSource, IsSettled, IsSettling, with_inputs, next}
 use Rattle.verilog_tree.specs.Cycle.{circuit_of, driver_of, given, one_of, condition_holds}
 use Rattle.verilog_tree.specs.Shown.{Cycle, ports_of, inputs_of}
 use Rattle.verilog_tree.proofs.OneSettling.{mapped}
@@ -32,7 +32,7 @@ use Rattle.net_module.specs.Written.{IsWritable, is_wire, is_register, input_pla
 use Rattle.net_module.specs.Steps.{width_in}
 use Rattle.net_module.proofs.Numbers.{number_least, number_apart, number_input, first_there}
 use Rattle.net_module.proofs.Lists.{found_signal, passed_ports, assignment_of, assign_at, assign_from, block_gives, all_give, given_none, given_one}
-use Rattle.net_module.proofs.Nodes.{node_bits}
+use Rattle.net_module.proofs.Nodes.{ReadsAmong, node_bits}
 
 false_true : false ≡ true → ⊥
 false_true h = cc
@@ -75,6 +75,19 @@ register_data item e = let r = register_is item e in ap is_input r.1
 
 pub wire_of : (b c : Bool) → b ≡ false → c ≡ false → (not b && not c) ≡ true
 wire_of b c e f = rw (e, f) refl
+
+-- every item reads some nodes
+reads_any : (item : Item) → ReadsAmong (λ k. Unit {0}) item
+reads_any Input = tt
+reads_any (Constant v) = tt
+reads_any (Add a b) = (tt, tt)
+reads_any (Sub a b) = (tt, tt)
+reads_any (Shl a by) = tt
+reads_any (Shr a by) = tt
+reads_any (Mux on a b) = (tt, tt, tt)
+reads_any (Equal a b) = (tt, tt)
+reads_any (Bits a high low) = tt
+reads_any (Register next) = tt
 
 -- ---- conditions and blocks
 
@@ -161,6 +174,42 @@ module _ (cells : List Cell) (netlist : IsNetlist cells) (writable : IsWritable 
       let one = same_cell d cell (slice_get cells place) (ap (slice_get cells) (sym same) ∙ found) at in
       false_true (sym parts.1 ∙ ap (λ (c : Cell). is_register c.item) one ∙ reg))
 
+  -- ---- the value of a node
+
+  module _ (x : ℕ → ℤ) (worth : Worth) (run : IsRun cut_all cells x worth) (t : ℕ) (now : Values) where
+    fits_of : (place : ℕ) (cell : Cell) → slice_get cells place ≡ Some cell → FitsWidth cell.width (worth t place)
+    fits_of place cell at =
+        let wide = wide_of place cell at in
+        subst (λ (z : ℤ). FitsWidth cell.width z) (IsRun-keeps cut_all IsCut-all cells x worth place cell run at wide t) (FitsWidth-wrap cell.width (worth t place) wide)
+
+    pub make : (place : ℕ) (cell : Cell) → slice_get cells place ≡ Some cell → now (N place) ≡ pattern cell.width (worth t place) → Holds S now (N place) (worth t place)
+    make place cell at bits =
+        let w = width_of place cell at in
+        let wide = wide_of place cell at in
+        record {
+          wide = omega (arith, w, wide);
+          sign = sign_of place cell at;
+          fits = subst (λ (n : ℕ). FitsWidth n (worth t place)) (sym w) (fits_of place cell at);
+          bits = bits ∙ ap (λ (n : ℕ). pattern n (worth t place)) (sym w);
+        }
+
+    -- a settled wire has the bits of its node's value, where the nodes have that it reads
+    pub wire_bits : IsSettled C now → (among : ℕ → Type 0) (place : ℕ) (cell : Cell) (item : Item) → slice_get cells place ≡ Some cell → cell.item ≡ Some item → is_wire (Some item) ≡ true → ReadsAmong among item
+        → ((k : ℕ) → k < place → among k → Holds S now (N k) (worth t k)) → now (N place) ≡ pattern cell.width (worth t place)
+    wire_bits settled among place cell item at is wire reads_these held =
+        let reads = netlist.well_formed.each place cell at in
+        let inside = slice_get_within cells place cell at in
+        let here : 0 + place ≡ place = omega arith in
+        let a = assign_at N cells 0 place cell at (ap is_wire is ∙ wire) in
+        let value = settled (suc (suc a.0)) (driver_of S (assignment_of N cell (0 + place))) (slice_get-map (driver_of S) D.assigns (suc (suc a.0)) ∙ ap (option_map (driver_of S)) a.1) in
+        ap (λ (p : ℕ). now (N p)) (sym here) ∙ value ∙ ap (λ (p : ℕ). assigned S now (N p) (tree_for N cell.width cell.item)) here
+        ∙ ap (λ (i : Option Item). assigned S now (N place) (tree_for N cell.width i)) is
+        ∙ node_bits cells S now N x worth t (N place) place (length cells) cell.width (wide_of place cell at) (width_of place cell at) among held
+        (λ k lt. let there = cell_at-there cells k (omega (arith, inside, lt)) in (cell_at cells k, there, width_of k (cell_at cells k) there)) item wire reads_these
+        (subst (Obeys (cut_all (is_control cell) cell.width) x worth place) is (run.each place cell at))
+        (subst (OperandsBelow place (length cells) cell.width) is reads.operands)
+        (subst (SelectsWithin cells) is reads.selects)
+
   -- ---- settled values
 
   module _ (c : Cycle) (content now : Values) (settling : IsSettling C (inputs c content) now) where
@@ -242,22 +291,6 @@ module _ (cells : List Cell) (netlist : IsNetlist cells) (writable : IsWritable 
 
     module _ (x : ℕ → ℤ) (worth : Worth) (t : ℕ) (run : IsRun cut_all cells x worth) (small : c.in_data < 2 ^ width_in cells) (sample : x t ≡ signed (width_in cells) c.in_data)
         (registers : (place : ℕ) (cell : Cell) → slice_get cells place ≡ Some cell → is_register cell.item ≡ true → content (N place) ≡ pattern cell.width (worth t place)) where
-      fits_of : (place : ℕ) (cell : Cell) → slice_get cells place ≡ Some cell → FitsWidth cell.width (worth t place)
-      fits_of place cell at =
-          let wide = wide_of place cell at in
-          subst (λ (z : ℤ). FitsWidth cell.width z) (IsRun-keeps cut_all IsCut-all cells x worth place cell run at wide t) (FitsWidth-wrap cell.width (worth t place) wide)
-
-      make : (place : ℕ) (cell : Cell) → slice_get cells place ≡ Some cell → now (N place) ≡ pattern cell.width (worth t place) → Holds S now (N place) (worth t place)
-      make place cell at bits =
-          let w = width_of place cell at in
-          let wide = wide_of place cell at in
-          record {
-            wide = omega (arith, w, wide);
-            sign = sign_of place cell at;
-            fits = subst (λ (n : ℕ). FitsWidth n (worth t place)) (sym w) (fits_of place cell at);
-            bits = bits ∙ ap (λ (n : ℕ). pattern n (worth t place)) (sym w);
-          }
-
       input_bits : (place : ℕ) (cell : Cell) → slice_get cells place ≡ Some cell → is_input cell.item ≡ true → now (N place) ≡ pattern cell.width (worth t place)
       input_bits place cell at is =
           let w = input_width place cell at is in
@@ -270,26 +303,10 @@ module _ (cells : List Cell) (netlist : IsNetlist cells) (writable : IsWritable 
           ∙ ap (pattern cell.width) (sym sample)
           ∙ sym (pattern-wrap cell.width (x t) wide) ∙ ap (pattern cell.width) (sym (obeys t))
 
-      wire_bits : (place : ℕ) (cell : Cell) (item : Item) → slice_get cells place ≡ Some cell → cell.item ≡ Some item → is_wire (Some item) ≡ true
-          → ((k : ℕ) → k < place → Holds S now (N k) (worth t k)) → now (N place) ≡ pattern cell.width (worth t place)
-      wire_bits place cell item at is wire held =
-          let reads = netlist.well_formed.each place cell at in
-          let inside = slice_get_within cells place cell at in
-          let here : 0 + place ≡ place = omega arith in
-          let a = assign_at N cells 0 place cell at (ap is_wire is ∙ wire) in
-          let value = settled_assign (suc (suc a.0)) (assignment_of N cell (0 + place)) a.1 in
-          ap (λ (p : ℕ). now (N p)) (sym here) ∙ value ∙ ap (λ (p : ℕ). assigned S now (N p) (tree_for N cell.width cell.item)) here
-          ∙ ap (λ (i : Option Item). assigned S now (N place) (tree_for N cell.width i)) is
-          ∙ node_bits cells S now N x worth t (N place) place (length cells) cell.width (wide_of place cell at) (width_of place cell at) held
-          (λ k lt. let there = cell_at-there cells k (omega (arith, inside, lt)) in (cell_at cells k, there, width_of k (cell_at cells k) there)) item wire
-          (subst (Obeys (cut_all (is_control cell) cell.width) x worth place) is (run.each place cell at))
-          (subst (OperandsBelow place (length cells) cell.width) is reads.operands)
-          (subst (SelectsWithin cells) is reads.selects)
-
       nodes_below : (bound place : ℕ) → place < bound → (cell : Cell) → slice_get cells place ≡ Some cell → Holds S now (N place) (worth t place)
       nodes_below zero place lt cell at = absurd (omega arith)
       nodes_below (suc bound) place lt cell at =
-          make place cell at
+          make x worth run t now place cell at
           (by cell.item refl (netlist.bound.each place cell at)
           (λ k less. let there = cell_at-there cells k (omega (arith, slice_get_within cells place cell at)) in nodes_below bound k (omega arith) (cell_at cells k) there))
         where
@@ -300,7 +317,7 @@ module _ (cells : List Cell) (netlist : IsNetlist cells) (writable : IsWritable 
               which : (b d : Bool) → is_input (Some item) ≡ b → is_register (Some item) ≡ d → now (N place) ≡ pattern cell.width (worth t place)
               which true d e f = input_bits place cell at (ap is_input is ∙ e)
               which false true e f = register_is_kept place cell at (ap is_register is ∙ f) ∙ registers place cell at (ap is_register is ∙ f)
-              which false false e f = wire_bits place cell item at is (wire_of (is_input (Some item)) (is_register (Some item)) e f) held
+              which false false e f = wire_bits x worth run t now settling.settled (λ k. Unit {0}) place cell item at is (wire_of (is_input (Some item)) (is_register (Some item)) e f) (reads_any item) (λ k less any. held k less)
 
       -- each node's signal has the bits of its value
       pub nodes_hold : (place : ℕ) (cell : Cell) → slice_get cells place ≡ Some cell → Holds S now (N place) (worth t place)

@@ -2,6 +2,8 @@ pub mod Numbers
 pub mod Loops
 pub mod Lists
 pub mod Nodes
+pub mod ControlHolds
+pub mod Settles
 pub mod Cycles
 pub mod Along
 pub mod Outputs

@@ -3,7 +3,9 @@ use Rattle.std.specs.Prelude.{◌≡◌, ℕ, zero, suc, ◌+◌, true, false, L
 use Rattle.mr_values.specs.Width.{pattern, signed}
 use Rattle.net_graph.specs.declared.cell.Cell.{Cell}
 use Rattle.net_graph.specs.Cells.{cell_at}
+use Rattle.net_graph.specs.Control.{IsControlClosed}
 use Rattle.net_graph.specs.Cut.{cut_all}
+use Rattle.net_graph.specs.Name.{is_control}
 use Rattle.net_graph.specs.Run.{IsRun, Values as Worth}
 use Rattle.verilog_tree.specs.Meaning.{Values}
 use Rattle.verilog_tree.specs.Names.{shapes_of}
@@ -40,7 +42,7 @@ pub record RunsAfterReset (cells : List Cell) (content : Values) (before after :
   pub fit : EachFits (width_in cells) after
 
 -- In each cycle after the reset each register has the bits of its node's value at the tick's number; so has the wire or register of
--- each node in a cycle that is a tick.
+-- each node in a cycle that is a tick, and that of each control node in every cycle, where control nodes read control nodes alone.
 pub record StepsAs (cells : List Cell) : Type 0 where
   pub registers : (content : Values) (before after : List Cycle) (reset : Cycle) (settled : List Values) → RunsAfterReset cells content before after reset settled
       → (worth : Worth) → IsRun cut_all cells (samples_of (width_in cells) after) worth
@@ -51,6 +53,11 @@ pub record StepsAs (cells : List Cell) : Type 0 where
       → (worth : Worth) → IsRun cut_all cells (samples_of (width_in cells) after) worth
       → (j : ℕ) (c : Cycle) (now : Values) → slice_get after j ≡ Some c → c.ce ≡ true → slice_get settled (length before + 1 + j) ≡ Some now
       → (place : ℕ) (cell : Cell) → slice_get cells place ≡ Some cell
+      → now (number_of cells place) ≡ pattern cell.width (worth (ticks_in (take j after)) place)
+  pub control : IsControlClosed cells → (content : Values) (before after : List Cycle) (reset : Cycle) (settled : List Values) → RunsAfterReset cells content before after reset settled
+      → (worth : Worth) → IsRun cut_all cells (samples_of (width_in cells) after) worth
+      → (j : ℕ) (now : Values) → slice_get settled (length before + 1 + j) ≡ Some now
+      → (place : ℕ) (cell : Cell) → slice_get cells place ≡ Some cell → is_control cell ≡ true
       → now (number_of cells place) ≡ pattern cell.width (worth (ticks_in (take j after)) place)
   -- a cycle with `rst` 0 and `ce` 0 changes no register
   pub rests : (content now : Values) (c : Cycle) → IsSettling (circuit_of (written_module cells)) (with_inputs (inputs_of (ports_of (written_module cells)) c) content) now

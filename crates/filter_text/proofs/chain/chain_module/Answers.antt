@@ -10,24 +10,24 @@ use Rattle.verilog_text.specs.Grammar.{limits}
 use Rattle.verilog_text.specs.Shortest.{IsWritable}
 use Rattle.verilog_text.specs.Order.{IsInOrder, IsSameButPlaces}
 use Rattle.net_module.specs.Written.{written_module}
-use Rattle.net_module.proofs.Outputs.{shows_as}
 use Rattle.net_text.proofs.Writable.{has_text, in_order}
 use Rattle.uncut_runs.proofs.Exists.{passing_uncut}
 use Rattle.chain_build.specs.Linear.{output_range}
 use Rattle.chain_build.specs.declared.extremes.RegisterExtreme.{RegisterExtreme}
 use Rattle.filter_text.specs.Extremes.{told_at, TellsByNumber}
-use Rattle.filter_text.specs.Headline.{ShowsChain, KeepsOutput}
+use Rattle.filter_text.specs.Headline.{ShowsChain, ShowsOutputs, KeepsOutput, KeepsWhole, IsLeastOutput}
 use Rattle.filter_text.specs.Written.{TellCosts}
 use Rattle.filter_text.proofs.ChainLimits.{narrow_plan, wide_plan, some_ticks}
 use Rattle.filter_text.proofs.ChainPlaces.{chain_writable, output_wide}
-use Rattle.filter_text.proofs.ChainShows.{chain_shows}
-use Rattle.filter_text.proofs.UncutOutput.{keeps_output}
+use Rattle.filter_text.proofs.ChainShows.{chain_shows, chain_outputs}
+use Rattle.filter_text.proofs.UncutOutput.{keeps_output, keeps_whole}
+use Rattle.filter_text.proofs.LeastOutput.{least_output}
 use Rattle.plan_laws.proofs.Passes.{passes_of}
 use Rattle.filter_text.proofs.CountedText.{chain_counted, chain_costs}
 use Rattle.filter_text.proofs.RegistersText.{registers_text}
 use Rattle.filter_text.proofs.LeastText.{least_text}
 use Rattle.filter_text.proofs.ShapesText.{chain_shaped}
-use Rattle.filter_text.proofs.NamesText.{chain_ports, chain_names, chain_control, chain_outputs_plain}
+use Rattle.filter_text.proofs.NamesText.{chain_blocks, chain_ports, chain_names, chain_control, chain_outputs_plain, chain_reset}
 use Rattle.filter_text.proofs.TellExtremes.{tells_extremes}
 use Rattle.filter_text.proofs.TellNumbers.{has_extremes, told_within, tells_each}
 use Rattle.filter_text.proofs.ReadModules.{passing, running, output_width}
@@ -61,6 +61,7 @@ returns c =
     let some = some_ticks c.args.plan.now c.requires.accepted in
     let can = chain_writable net narrow in
     let few = (passes_of c.args.plan.now c.requires.accepted).limits.few in
+    let within = (passes_of c.args.plan.now c.requires.accepted).limits.elements in
     let small = c.nets_are_small.ensures in
     let has = c.in_ok-built.ensures.costs in
     let linear = c.in_ok-built.ensures.registers in
@@ -77,14 +78,21 @@ returns c =
             output = subst (IsLeastWidth (output_range W T es).lo (output_range W T es).hi) (sym (output_width cells d as_written ∙ output_wide net)) net.least;
             shows = subst (λ (p : ℕ). ShowsChain es W T c.args.facts.now.latency p d) (sym c.requires.are_facts.period_is)
                 (subst (λ (l : ℕ). ShowsChain es W T l (last_stream W T es).period d) (sym c.requires.are_facts.latency_is)
-                (chain_shows wide some net.positive net (shows_as cells net.netlist can) d as_written));
+                (chain_shows narrow some net.positive net d as_written));
+            outputs = subst (λ (p : ℕ). ShowsOutputs es W T c.args.facts.now.latency p d) (sym c.requires.are_facts.period_is)
+                (subst (λ (l : ℕ). ShowsOutputs es W T l (last_stream W T es).period d) (sym c.requires.are_facts.latency_is) (chain_outputs narrow some net.positive net d as_written));
+            keeps = subst (λ (p : ℕ). KeepsOutput es W T c.args.facts.now.latency p d) (sym c.requires.are_facts.period_is)
+                (subst (λ (l : ℕ). KeepsOutput es W T l (last_stream W T es).period d) (sym c.requires.are_facts.latency_is) (keeps_output wide narrow some net d as_written));
+            least_output = λ plain. subst (IsLeastOutput es W) (sym (output_width cells d as_written ∙ output_wide net)) (least_output es W T net.out_width within net.least plain);
             uncut = λ plain.
-                subst (λ (p : ℕ). KeepsOutput es W T c.args.facts.now.latency p d) (sym c.requires.are_facts.period_is)
-                (subst (λ (l : ℕ). KeepsOutput es W T l (last_stream W T es).period d) (sym c.requires.are_facts.latency_is) (keeps_output wide narrow some net d as_written plain));
+                subst (λ (p : ℕ). KeepsWhole es W T c.args.facts.now.latency p d) (sym c.requires.are_facts.period_is)
+                (subst (λ (l : ℕ). KeepsWhole es W T l (last_stream W T es).period d) (sym c.requires.are_facts.latency_is) (keeps_whole wide narrow some net d as_written plain));
             registers = registers;
             least = least_text some d registers (has_extremes told);
             costs = chain_counted es c.in_ok-built.built.costs.items cells few net.netlist small has d as_written;
             shapes = chain_shaped es cells few net.netlist small has.no_tables c.in_ok-built.ensures.shapes d as_written;
+            blocks = chain_blocks net can d as_written;
+            reset = chain_reset net can d as_written;
             ports = chain_ports net can d as_written;
             names = chain_names net can d as_written c.in_ok-built.ensures.groups;
             control = chain_control net can d as_written;

@@ -1,0 +1,4 @@
+pub mod Data
+pub mod Each
+pub mod Ticks
+pub mod Places
