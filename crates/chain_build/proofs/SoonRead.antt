@@ -19,10 +19,12 @@ use Rattle.plan_laws.proofs.Passes.{passes_of}
 use Rattle.impulse_phase.specs.Reach.{extent}
 use Rattle.impulse_phase.specs.Response.{full_cycle, AreLinear}
 use Rattle.impulse_phase.proofs.Reach.{factor-le}
-use Rattle.polyphase_fir.specs.Facts.{levels_of, registers_of}
-use Rattle.polyphase_fir.specs.Listed.{window_sum, window_sums, tree_sum, level_sums, tree_sums, phase_sums, numbered}
+use Rattle.fir_pieces.specs.declared.reading.Reading.{Reading}
+use Rattle.fir_pieces.specs.Listed.{window_sum, window_sums, tree_sum, level_sums, tree_sums, numbered}
+use Rattle.fir_pieces.specs.Reading.{ages}
+use Rattle.fir_pieces.proofs.ListLemmas.{each_numbered, each_appended}
+use Rattle.polyphase_fir.specs.Facts.{depth_of, levels_of, phase_sums, registers_of}
 use Rattle.polyphase_fir.specs.Placed.{placed_terms}
-use Rattle.polyphase_fir.proofs.ListLemmas.{each_numbered, each_appended}
 use Rattle.stage_law.specs.Facts.{StageFacts}
 use Rattle.stage_law.specs.Kinds.{is_linear}
 use Rattle.stage_law.specs.Registers.{HeldSum, StageRegister, Telling, bits_of}
@@ -57,30 +59,32 @@ window-every zero = none_every
 window-every (suc age) = each_appended IsEvery (window_sums age) (window_sum age ∷ []) (window-every age) (one_every (window_sum age) refl)
 
 -- the terms of a phase, as they are placed
-level-every : (up r : ℕ) (taps : List ℤ) (level count : ℕ) → AreEvery (level_sums (placed_terms up r taps) level count)
-level-every up r taps level zero = none_every
-level-every up r taps level (suc j) =
+level-every : (readings : List Reading) (up r : ℕ) (taps : List ℤ) (level count : ℕ) → AreEvery (level_sums readings 0 (placed_terms up r taps) level count)
+level-every readings up r taps level zero = none_every
+level-every readings up r taps level (suc j) =
     let terms = placed_terms up r taps in
-    each_appended IsEvery (level_sums terms level j) (tree_sum terms level j ∷ []) (level-every up r taps level j) (one_every (tree_sum terms level j) refl)
+    each_appended IsEvery (level_sums readings 0 terms level j) (tree_sum readings 0 terms level j ∷ []) (level-every readings up r taps level j) (one_every (tree_sum readings 0 terms level j) refl)
 
-tree-every : (up r : ℕ) (taps : List ℤ) (levels : ℕ) → AreEvery (tree_sums (placed_terms up r taps) levels)
-tree-every up r taps zero = none_every
-tree-every up r taps (suc level) =
+tree-every : (readings : List Reading) (up r : ℕ) (taps : List ℤ) (levels : ℕ) → AreEvery (tree_sums readings 0 (placed_terms up r taps) levels)
+tree-every readings up r taps zero = none_every
+tree-every readings up r taps (suc level) =
     let terms = placed_terms up r taps in
     let count = level_count (length terms) (suc level) in
-    each_appended IsEvery (tree_sums terms level) (level_sums terms level count) (tree-every up r taps level) (level-every up r taps level count)
+    each_appended IsEvery (tree_sums readings 0 terms level) (level_sums readings 0 terms level count) (tree-every readings up r taps level) (level-every readings up r taps level count)
 
 phase-every : (up : ℕ) (taps : List ℤ) (levels r : ℕ) → AreEvery (phase_sums up taps levels r)
 phase-every up taps levels zero = none_every
-phase-every up taps levels (suc r) = each_appended IsEvery (phase_sums up taps levels r) (tree_sums (placed_terms up r taps) levels) (phase-every up taps levels r) (tree-every up r taps levels)
+phase-every up taps levels (suc r) =
+    let readings = ages (depth_of taps up) in
+    each_appended IsEvery (phase_sums up taps levels r) (tree_sums readings 0 (placed_terms up r taps) levels) (phase-every up taps levels r) (tree-every readings up r taps levels)
 
 numbered-every : (kind : NameKind) (sums : List HeldSum) → AreEvery sums → (i : ℕ) (r : StageRegister) → slice_get (numbered kind 0 sums) i ≡ Some r → AreEvery r.sums
 numbered-every kind sums each = each_numbered (λ (r : StageRegister). AreEvery r.sums) kind 0 sums (λ k s there. one_every s (each k s there))
 
 listed-every : (taps : List ℤ) (up i : ℕ) (r : StageRegister) → slice_get (registers_of taps up) i ≡ Some r → AreEvery r.sums
 listed-every taps up =
-    each_appended (λ (r : StageRegister). AreEvery r.sums) (numbered Window 0 (window_sums (ceil_div (length taps) up))) (numbered Register 0 (phase_sums up taps (levels_of taps up) up))
-    (numbered-every Window (window_sums (ceil_div (length taps) up)) (window-every (ceil_div (length taps) up)))
+    each_appended (λ (r : StageRegister). AreEvery r.sums) (numbered Window 0 (window_sums (depth_of taps up))) (numbered Register 0 (phase_sums up taps (levels_of taps up) up))
+    (numbered-every Window (window_sums (depth_of taps up)) (window-every (depth_of taps up)))
     (numbered-every Register (phase_sums up taps (levels_of taps up) up) (phase-every up taps (levels_of taps up) up))
 
 pub group-every : (g : Group) (period i : ℕ) (r : StageRegister) → slice_get (group_registers g period) i ≡ Some r → AreEvery r.sums
