@@ -22,7 +22,7 @@ use Rattle.net_graph.specs.WellFormed.{IsWellFormed, IsNamed}
 use Rattle.net_graph.proofs.CutLemmas.{IsCut-all, IsCut-control}
 use Rattle.pipeline_balance.specs.Gate.{Carries}
 use Rattle.pipeline_balance.specs.Numbered.{IsRegister, name_of}
-use Rattle.polyphase_fir.proofs.PeakLemmas.{bits_least}
+use Rattle.fir_pieces.proofs.PeakLemmas.{bits_least}
 use Rattle.rounding_stage.proofs.MapLemmas.{fits_between}
 use Rattle.stage_law.specs.Registers.{HeldSum, bits_for, bits_of}
 use Rattle.chain_build.specs.declared.output.Outputs.{Outputs}

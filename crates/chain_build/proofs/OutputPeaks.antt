@@ -12,7 +12,7 @@ use Rattle.net_graph.specs.declared.name.NameKind.TheVariants.{Output}
 use Rattle.net_graph.specs.Cells.{cell_at}
 use Rattle.net_graph.proofs.CellLemmas.{cell_at-is}
 use Rattle.pipeline_balance.specs.Numbered.{IsRegister, name_of}
-use Rattle.polyphase_fir.proofs.PeakLemmas.{bits_least}
+use Rattle.fir_pieces.proofs.PeakLemmas.{bits_least}
 use Rattle.stage_law.specs.Least.{named_peak}
 use Rattle.stage_law.specs.Registers.{HeldSum, NamedPeak, bits_for, needs_high, peak_at, peaks_of}
 use Rattle.stage_law.specs.Streams.{HasRoom}

@@ -4,7 +4,7 @@ use Rattle.std.proofs.lemmas.Option.{slice_get-map}
 use Rattle.std.specs.Option.{option_map}
 use Rattle.net_graph.specs.declared.cell.Cell.{Cell}
 use Rattle.pipeline_balance.specs.Numbered.{name_of}
-use Rattle.polyphase_fir.proofs.WidthsLemmas.{slice_get-append_right}
+use Rattle.fir_pieces.proofs.WidthsLemmas.{slice_get-append_right}
 use Rattle.stage_law.specs.Least.{named_peak}
 use Rattle.stage_law.specs.Registers.{HeldSum, StageRegister, Telling, NamedPeak, bits_for, bits_of, needing, needs_high, peak_at, peak_of, peaks_of}
 use Rattle.stage_law.specs.declared.stage.Peak.{Peak}

@@ -7,11 +7,13 @@ use Rattle.mr_values.specs.Timing.{ceil_div, ceil_log, terms, greatest}
 use Rattle.net_graph.specs.declared.name.NameKind.TheVariants.{Window, Register}
 use Rattle.signed_digit.specs.Terms.{terms_of}
 use Rattle.stage_law.specs.Facts.{StageFacts}
-use Rattle.stage_law.specs.Registers.{StageRegister}
+use Rattle.stage_law.specs.Registers.{HeldSum, StageRegister}
 use Rattle.stage_law.specs.Streams.{magnitudes}
 use Rattle.stage_law.specs.declared.stage.Kind.TheVariants.{Parallel as ParallelKind}
-use Rattle.polyphase_fir.specs.Placed.{term_adders}
-use Rattle.polyphase_fir.specs.Listed.{window_sums, phase_sums, numbered}
+use Rattle.fir_pieces.specs.Placed.{term_adders}
+use Rattle.fir_pieces.specs.Reading.{ages}
+use Rattle.fir_pieces.specs.Listed.{window_sums, tree_sums, numbered}
+use Rattle.polyphase_fir.specs.Placed.{placed_terms}
 
 -- the adders of the trees of the phases below r
 abbrev pub adders_below : ℕ → List ℤ → ℕ → ℕ
@@ -25,9 +27,18 @@ elements_of taps up down = Up (pos up) ∷ Filter taps Parallel ∷ Down (pos do
 abbrev pub levels_of : List ℤ → ℕ → ℕ
 levels_of taps up = ceil_log (greatest terms up taps)
 
+-- how many values the window holds
+abbrev pub depth_of : List ℤ → ℕ → ℕ
+depth_of taps up = ceil_div (length taps) up
+
+-- the sums of the trees of the phases below r, over the window's values
+abbrev pub phase_sums : ℕ → List ℤ → ℕ → ℕ → List HeldSum
+phase_sums up taps levels zero = []
+phase_sums up taps levels (suc r) = phase_sums up taps levels r ++ tree_sums (ages (depth_of taps up)) 0 (placed_terms up r taps) levels
+
 -- the window's registers, and those of the trees, phase by phase
 abbrev pub registers_of : List ℤ → ℕ → List StageRegister
-registers_of taps up = numbered Window 0 (window_sums (ceil_div (length taps) up)) ++ numbered Register 0 (phase_sums up taps (levels_of taps up) up)
+registers_of taps up = numbered Window 0 (window_sums (depth_of taps up)) ++ numbered Register 0 (phase_sums up taps (levels_of taps up) up)
 
 abbrev pub polyphase_facts : List ℤ → ℕ → ℕ → StageFacts
 polyphase_facts taps up down = record {
@@ -38,9 +49,9 @@ polyphase_facts taps up down = record {
   delay = λ period. 1 + levels_of taps up;
   gain = magnitudes taps;
   adders = adders_below up taps up;
-  windows = ceil_div (length taps) up;
+  windows = depth_of taps up;
   tables = 0;
-  longest = ceil_div (length taps) up + 1;
+  longest = depth_of taps up + 1;
   registers = λ period. registers_of taps up;
 }
 

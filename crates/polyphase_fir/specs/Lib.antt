@@ -1,11 +1,5 @@
 pub mod Placed
-pub mod Form
-pub mod Listed
-pub mod Held
-pub mod Peaks
-pub mod Sums
-pub mod Cutting
-pub mod Roots
-pub mod Order
 pub mod Facts
 pub mod Stage
+pub mod Roots
+pub mod Order

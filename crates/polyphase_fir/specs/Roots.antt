@@ -15,6 +15,11 @@ use Rattle.pipeline_balance.specs.Gate.{Carries, HasTaken}
 use Rattle.pipeline_balance.specs.Numbered.{LeavesFree, IsTouched}
 use Rattle.pipeline_balance.specs.Shapes.{KeepsShapes}
 use Rattle.stage_law.specs.Streams.{Streams}
+use Rattle.net_graph.specs.Depth.{IsShallow}
+use Rattle.pipeline_balance.specs.Numbered.{IsCounted, name_of}
+use Rattle.pipeline_balance.specs.Shallow.{ArePlain}
+use Rattle.stage_law.specs.Registers.{HeldSum}
+use Rattle.fir_pieces.specs.Peaks.{IsDue}
 use Rattle.polyphase_fir.specs.Facts.{adders_below}
 
 -- so many ticks after a tick before which the values up to number k were taken, the node has what phase r of the filter makes of them
@@ -31,6 +36,17 @@ pub record AddsRoots (streams : Streams) (old new : NetView) (from : Stream) (le
   pub named : SameNamed old.cells new.cells
   pub names : LeavesFree old.cells new.cells (IsTouched old.group Register)
   pub linear : KeepsShapes old.cells new.cells
+
+-- the new net has these registers more, numbered on, and they hold these sums
+pub record AddsRegisters (streams : Streams) (old new : NetView) (from : Stream) (depth levels : ℕ) (sums : List HeldSum) (registers : List Node) : Type 0 where
+  pub many : length registers ≡ length sums
+  pub counted : (count : ℕ) → IsCounted old.cells old.group Register count → IsCounted new.cells old.group Register (count + length sums)
+  pub each : (count k : ℕ) (s : HeldSum) (node : Node) → IsCounted old.cells old.group Register count → slice_get sums k ≡ Some s → slice_get registers k ≡ Some node
+      → IsDue streams new.cells from depth levels old.group (name_of old.group Register (count + k)) s node
+
+-- the new net is shallow where the old was and no adder stood before the window's nodes
+pub record SumsWindow (old new : NetView) (window : List Node) : Type 0 where
+  pub shallow : IsShallow old.cells old.group → ArePlain old.cells old.group window → IsShallow new.cells old.group
 
 -- the node `to` of the new net has, at tick first + n * period, the value of the root of phase n * down modulo up
 pub record AddsShown (old new : NetView) (roots : List Node) (up down period first : ℕ) (to : Node) : Type 0 where

@@ -1,26 +1,13 @@
 // What the trees of all phases need.
 
-ghost use Rattle.std.specs.Prelude.{◌≡◌, ◌+◌, ◌*◌, ◌^◌, ◌<◌, ◌≤◌, length, IfOk};
+ghost use Rattle.std.specs.Prelude.{◌≡◌, ◌^◌, ◌≤◌, length, IfOk};
 ghost use Rattle.mr_values.specs.Timing.{terms, greatest};
-ghost use Rattle.polyphase_fir.specs.Placed.{adders_for};
 ghost use Rattle.polyphase_fir.specs.Facts.{adders_below};
 
-use crate::forms::all_minus;
+use fir_pieces::{adders_for, all_minus};
 use mr_values::{Memory, count_terms};
 use signed_digit::terms;
 use std::alloc::Global;
-
-// The adders of a tree over so many terms.
-fn adders_for(terms: u64, negative: bool) -> u64
-    ensures value { result ≡ adders_for terms negative }
-    ensures small { result ≤ terms }
-{
-    if terms == 0 || negative {
-        terms
-    } else {
-        terms - 1
-    }
-}
 
 /// The greatest number of terms of a phase.
 pub(crate) fn greatest_terms(taps: &[i64], up: u32) -> u64

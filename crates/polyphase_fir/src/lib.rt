@@ -2,19 +2,12 @@
 #![tactic(auto)]
 
 mod counts;
-mod cutting;
-mod forms;
-mod held;
-mod leaves;
 mod numbers;
-mod peaks;
 mod phases;
 mod places;
 mod polyphase;
 mod roots;
 mod stage;
-mod tree;
-mod widths;
 
 pub use polyphase::Polyphase;
 

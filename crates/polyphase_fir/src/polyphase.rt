@@ -2,11 +2,12 @@
 
 ghost use Rattle.std.specs.Prelude.{◌≡◌, ◌≤◌, ◌^◌, length};
 ghost use Rattle.mr_values.specs.Value.{AreTaps};
-ghost use Rattle.mr_values.specs.Timing.{ceil_div, ceil_log, terms, greatest};
-ghost use Rattle.polyphase_fir.specs.Facts.{adders_below, levels_of};
+ghost use Rattle.mr_values.specs.Timing.{terms, greatest};
+ghost use Rattle.polyphase_fir.specs.Facts.{adders_below, depth_of, levels_of};
 
 use crate::counts::{count_adders, greatest_terms};
-use crate::numbers::{ceil_div, ceil_log};
+use crate::numbers::ceil_div;
+use fir_pieces::ceil_log;
 use mr_values::Memory;
 use stage_law::Rates;
 use std::alloc::Global;
@@ -25,7 +26,7 @@ pub struct Polyphase {
     ghost down_low: { 1 ≤ rates.down },
     ghost down_high: { rates.down ≤ 4096 },
     ghost few: { greatest terms rates.up taps.items ≤ 2 ^ 18 },
-    ghost is_depth: { depth ≡ ceil_div (length taps.items) rates.up },
+    ghost is_depth: { depth ≡ depth_of taps.items rates.up },
     ghost is_levels: { levels ≡ levels_of taps.items rates.up },
     ghost is_adders: { adders ≡ adders_below rates.up taps.items rates.up },
 }

@@ -4,17 +4,15 @@ ghost use Rattle.std.specs.Prelude.{◌≡◌, ℕ, ◌<◌, ◌≤◌, ◌++◌
 ghost use Rattle.net_graph.specs.declared.cell.Stream.{Stream};
 ghost use Rattle.net_graph.specs.Grow.{Extends};
 ghost use Rattle.stage_law.specs.Streams.{HasRoom, magnitudes};
-ghost use Rattle.polyphase_fir.specs.Cutting.{IsWideWindow, IsCutWindow};
-ghost use Rattle.polyphase_fir.specs.Held.{AreHeld};
-ghost use Rattle.polyphase_fir.specs.Listed.{phase_sums};
-ghost use Rattle.polyphase_fir.specs.Peaks.{AddsRegisters};
-ghost use Rattle.polyphase_fir.specs.Roots.{AddsRoots};
-ghost use Rattle.polyphase_fir.specs.Sums.{SumsWindow};
+ghost use Rattle.fir_pieces.specs.Cutting.{IsWideWindow, IsCutWindow};
+ghost use Rattle.fir_pieces.specs.Held.{AreHeld};
+ghost use Rattle.fir_pieces.specs.Reading.{ages};
+ghost use Rattle.polyphase_fir.specs.Facts.{phase_sums};
+ghost use Rattle.polyphase_fir.specs.Roots.{AddsRegisters, AddsRoots, SumsWindow};
 
-use crate::held::Held;
 use crate::places::placed_terms;
 use crate::polyphase::Polyphase;
-use crate::tree::{Tree, phase_tree};
+use fir_pieces::{Held, Shown, Tree, sum_tree};
 use mr_values::Memory;
 use net_graph::{Net, Node};
 use stage_law::Ranges;
@@ -47,21 +45,23 @@ fn push_tree(trees: &mut Trees, tree: Tree) -> Result<(), Memory>
 pub(crate) fn phase_trees<R: Ranges>(
     alloc: Global,
     net: &mut Net,
-    window: &[Node],
+    window: &Shown,
     filter: &Polyphase,
     ranges: &R,
 ) -> Result<Trees, Memory>
     requires data_group { 1 ≤ net.old.group }
-    requires deep { length window.now ≡ filter.now.depth }
-    requires wide { IsWideWindow (R.streams ranges.now) net.old.cells window.now }
+    requires deep { length window.now.nodes.items ≡ filter.now.depth }
+    requires values { window.now.readings.items ≡ ages filter.now.depth }
+    requires prompt { window.now.ticks ≡ 0 }
+    requires wide { IsWideWindow (R.streams ranges.now) net.old.cells window.now.nodes.items }
     requires room { HasRoom (R.streams ranges.now) (magnitudes filter.now.taps.items) }
     ensures many { IfOk result (λ trees. length trees.roots.items ≡ filter.now.rates.up) }
-    ensures ok { IfOk result (λ trees. (from : Stream) → 1 ≤ from.period → IsCutWindow (R.streams ranges.now) net.old.cells from window.now
+    ensures ok { IfOk result (λ trees. (from : Stream) → 1 ≤ from.period → IsCutWindow (R.streams ranges.now) net.old.cells from window.now.nodes.items
         → AddsRoots (R.streams ranges.now) net.old net.new from filter.now.levels filter.now.taps.items filter.now.rates.up trees.roots.items) }
-    ensures registers { IfOk result (λ trees. (from : Stream) → 1 ≤ from.period → IsCutWindow (R.streams ranges.now) net.old.cells from window.now
-        → AddsRegisters (R.streams ranges.now) net.old net.new from (length window.now) filter.now.levels (phase_sums filter.now.rates.up filter.now.taps.items filter.now.levels filter.now.rates.up) trees.registers.items) }
+    ensures registers { IfOk result (λ trees. (from : Stream) → 1 ≤ from.period → IsCutWindow (R.streams ranges.now) net.old.cells from window.now.nodes.items
+        → AddsRegisters (R.streams ranges.now) net.old net.new from filter.now.depth filter.now.levels (phase_sums filter.now.rates.up filter.now.taps.items filter.now.levels filter.now.rates.up) trees.registers.items) }
     ensures held { IfOk result (λ trees. AreHeld (R.streams ranges.now) (phase_sums filter.now.rates.up filter.now.taps.items filter.now.levels filter.now.rates.up) trees.held.items) }
-    ensures shallow { IfOk result (λ _. SumsWindow net.old net.new window.now) }
+    ensures shallow { IfOk result (λ _. SumsWindow net.old net.new window.now.nodes.items) }
     ensures extends { Extends net.old.cells net.new.cells }
     ensures group { net.new.group ≡ net.old.group }
 {
@@ -72,7 +72,7 @@ pub(crate) fn phase_trees<R: Ranges>(
     };
     for phase in 0..filter.rates.up {
         let terms = placed_terms(alloc, filter.taps.as_slice(), filter.rates.up, phase)?;
-        let tree = phase_tree(alloc, net, window, terms.as_slice(), filter.levels, ranges)?;
+        let tree = sum_tree(alloc, net, window, terms.as_slice(), filter.levels, ranges)?;
         push_tree(&mut trees, tree)?;
     }
     Ok(trees)

@@ -7,11 +7,10 @@ ghost use Rattle.polyphase_fir.specs.Facts.{TakesPeriod};
 ghost use Rattle.polyphase_fir.specs.Roots.{IsShown};
 ghost use Rattle.polyphase_fir.specs.Stage.{facts_of};
 
-use crate::cutting::cut_window;
-use crate::peaks::{push_peaks, window_held};
 use crate::phases::shown_root;
 use crate::polyphase::Polyphase;
 use crate::roots::{Trees, phase_trees};
+use fir_pieces::{Shown, ages, cut_window, push_peaks, window_held};
 use mr_values::Memory;
 use net_graph::{Net, Node, Stream};
 use stage_law::{Cost, Emitted, Kind, Ranges, Rates, Stage};
@@ -80,16 +79,22 @@ impl Stage for Polyphase {
         from: Stream,
         ranges: &R,
     ) -> Result<Emitted, Memory> {
-        let window = cut_window(alloc, net, from, self.depth, ranges)?;
+        let nodes = cut_window(alloc, net, from, self.depth, ranges)?;
+        let readings = ages(alloc, self.depth)?;
+        let window = Shown {
+            nodes,
+            readings,
+            ticks: 0,
+        };
         let values = window_held(alloc, self.depth, ranges)?;
         let Trees {
             roots,
             registers,
             held,
-        } = phase_trees(alloc, net, window.as_slice(), self, ranges)?;
+        } = phase_trees(alloc, net, &window, self, ranges)?;
         let stream = self.shown(alloc, net, roots.as_slice(), from)?;
         let mut peaks = Vec::new(alloc);
-        push_peaks(&mut peaks, window.as_slice(), values)?;
+        push_peaks(&mut peaks, window.nodes.as_slice(), values)?;
         push_peaks(&mut peaks, registers.as_slice(), held)?;
         Ok(Emitted { stream, peaks })
     }

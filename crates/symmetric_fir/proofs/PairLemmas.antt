@@ -12,13 +12,13 @@ use Rattle.mr_values.proofs.Ring.{*ℤ-+ℤ}
 use Rattle.signed_digit.specs.declared.term_list.Term.{Term}
 use Rattle.signed_digit.specs.Terms.{term_sum}
 use Rattle.stage_law.specs.Streams.{magnitudes}
-use Rattle.fir_tree.specs.declared.reading.Reading.{Reading}
-use Rattle.fir_tree.specs.declared.reading.Reading.TheVariants.{One}
-use Rattle.fir_tree.specs.Placed.{powers}
-use Rattle.fir_tree.specs.Reading.{read, ReadsWithin, reading_at, reading_adders, all_adders, spread}
-use Rattle.fir_tree.proofs.FormLemmas.{neg_times, abs_signed}
-use Rattle.fir_tree.proofs.ReadingLemmas.{shown_by, values_in, counted_magnitudes, powers-spread_from}
-use Rattle.fir_tree.proofs.TermLemmas.{term_sum-taps, length-terms_of, terms_below}
+use Rattle.fir_pieces.specs.declared.reading.Reading.{Reading}
+use Rattle.fir_pieces.specs.declared.reading.Reading.TheVariants.{One}
+use Rattle.fir_pieces.specs.Placed.{powers}
+use Rattle.fir_pieces.specs.Reading.{read, ReadsWithin, reading_at, reading_adders, all_adders, spread}
+use Rattle.fir_pieces.proofs.FormLemmas.{neg_times, abs_signed}
+use Rattle.fir_pieces.proofs.ReadingLemmas.{shown_by, values_in, counted_magnitudes, powers-spread_from}
+use Rattle.fir_pieces.proofs.TermLemmas.{term_sum-taps, length-terms_of, terms_below}
 use Rattle.symmetric_fir.specs.Pairs.{tap, opposite, IsMirrored, is_zero, place_if, places_below, pair_places, centre_if, centre_places, pair_at, pairs, centres, readings, firsts, mirror_terms}
 use Rattle.symmetric_fir.proofs.SumLemmas.{sum_to, sum_to-same, sum_to-front, sum_to-even, sum_to-odd, weighted_sum-sum_to}
 

@@ -11,22 +11,22 @@ use Rattle.signed_digit.specs.Terms.{term_sum}
 use Rattle.pipeline_balance.specs.Tree.{count_to}
 use Rattle.pipeline_balance.proofs.NumberedLemmas.{width-later}
 use Rattle.stage_law.specs.Streams.{Streams, HasRoom, magnitudes}
-use Rattle.fir_tree.specs.declared.held.Held.{Held}
-use Rattle.fir_tree.specs.declared.reading.Reading.{Reading}
-use Rattle.fir_tree.specs.declared.reading.Reading.TheVariants.{One}
-use Rattle.fir_tree.specs.Form.{reading_form}
-use Rattle.fir_tree.specs.Held.{IsFormWidth, held_sum}
-use Rattle.fir_tree.specs.Listed.{reading_sum}
-use Rattle.fir_tree.specs.Placed.{leaf_of}
-use Rattle.fir_tree.specs.Reading.{reading_at}
-use Rattle.fir_tree.specs.Sums.{AddsTree, IsReady}
-use Rattle.fir_tree.proofs.BoundLemmas.{sum_within}
-use Rattle.fir_tree.proofs.GainLemmas.{gain_small}
-use Rattle.fir_tree.proofs.ListLemmas.{beside}
-use Rattle.fir_tree.proofs.Logarithm.{ceil_log_bound}
-use Rattle.fir_tree.proofs.ReadingLemmas.{shown_by}
-use Rattle.fir_tree.proofs.ReadyLemmas.{tree_ready}
-use Rattle.fir_tree.proofs.WidthsLemmas.{length-tree_sums}
+use Rattle.fir_pieces.specs.declared.held.Held.{Held}
+use Rattle.fir_pieces.specs.declared.reading.Reading.{Reading}
+use Rattle.fir_pieces.specs.declared.reading.Reading.TheVariants.{One}
+use Rattle.fir_pieces.specs.Form.{reading_form}
+use Rattle.fir_pieces.specs.Held.{IsFormWidth, held_sum}
+use Rattle.fir_pieces.specs.Listed.{reading_sum}
+use Rattle.fir_pieces.specs.Placed.{leaf_of}
+use Rattle.fir_pieces.specs.Reading.{reading_at}
+use Rattle.fir_pieces.specs.Sums.{AddsTree, IsReady}
+use Rattle.fir_pieces.proofs.BoundLemmas.{sum_within}
+use Rattle.fir_pieces.proofs.GainLemmas.{gain_small}
+use Rattle.fir_pieces.proofs.ListLemmas.{beside}
+use Rattle.fir_pieces.proofs.Logarithm.{ceil_log_power, ceil_log_bound}
+use Rattle.fir_pieces.proofs.ReadingLemmas.{shown_by}
+use Rattle.fir_pieces.proofs.ReadyLemmas.{IsNoWider-least, tree_ready}
+use Rattle.fir_pieces.proofs.WidthsLemmas.{length-tree_sums}
 use Rattle.symmetric_fir.specs.Facts.{levels_of}
 use Rattle.symmetric_fir.specs.Front.{AddsFront, AddsSums}
 use Rattle.symmetric_fir.specs.Pairs.{IsMirrored, pairs, centres, readings, mirror_terms}
@@ -38,8 +38,18 @@ low_levels taps few = subst (λ (n : ℕ). ceil_log n ≤ 18) (length-mirror_ter
 pub mirror_ready : {old middle : NetView} {window pair_nodes centre_nodes : List Node} {pair_held centre_held : List Held} (streams : Streams) (anti : ℕ) (taps : List ℤ) (levels : ℕ) → IsMirrored anti taps → AreTaps taps → length (mirror_terms taps) ≤ 2 ^ 18 → HasRoom streams (magnitudes taps) → levels ≡ levels_of taps
     → AddsFront streams old middle window anti taps pair_held centre_held pair_nodes centre_nodes → IsReady streams middle.cells (pair_nodes ++ centre_nodes) (readings anti taps) (mirror_terms taps) levels
 mirror_ready {old} {middle} {window} {pair_nodes} {centre_nodes} {pair_held} {centre_held} streams anti taps levels mirrored are_taps few room levels_are f =
-    tree_ready streams (readings anti taps) (mirror_terms taps) (magnitudes taps) (terms_within anti taps) (mirror_powers anti taps mirrored) (gain_small taps are_taps) few room within middle.cells (pair_nodes ++ centre_nodes) many wide levels (levels_are ∙ ap ceil_log (sym (length-mirror_terms taps)))
+    tree_ready streams (readings anti taps) (mirror_terms taps) (magnitudes taps) (terms_within anti taps) (mirror_powers anti taps mirrored) (gain_small taps are_taps) few room within middle.cells (pair_nodes ++ centre_nodes) many
+    (λ k node there. let known = wide k node there in (known.0, IsNoWider-least streams (reading_form (reading_at (readings anti taps) k)) (cell_at middle.cells node.place).width known.1)) levels deep low
   where
+    levels_of_terms : levels ≡ ceil_log (length (mirror_terms taps))
+    levels_of_terms = levels_are ∙ ap ceil_log (sym (length-mirror_terms taps))
+
+    deep : length (mirror_terms taps) ≤ 2 ^ levels
+    deep = subst (λ (n : ℕ). length (mirror_terms taps) ≤ 2 ^ n) (sym levels_of_terms) (ceil_log_power (length (mirror_terms taps)))
+
+    low : levels ≤ 31
+    low = let bound = ceil_log_bound 18 (length (mirror_terms taps)) few in omega (arith, bound, levels_of_terms)
+
     within : (g : ℕ → ℤ) (most : ℕ) → ((k : ℕ) → unsigned_abs (g k) ≤ most) → unsigned_abs (term_sum (shown_by (readings anti taps) g) (mirror_terms taps)) ≤ magnitudes taps * most
     within g most h = subst (λ (z : ℤ). unsigned_abs z ≤ magnitudes taps * most) (sym (mirror_sum anti taps g mirrored)) (sum_within taps g most h)
 

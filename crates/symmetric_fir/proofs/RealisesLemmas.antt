@@ -7,7 +7,6 @@ use Rattle.std.proofs.lemmas.Option.{slice_get-get_or, slice_get_within}
 use Rattle.mr_values.proofs.Polyphase.{weighted_sum-same}
 use Rattle.net_graph.specs.declared.cell.Node.{Node}
 use Rattle.net_graph.specs.declared.cell.Stream.{Stream}
-use Rattle.net_graph.specs.declared.name.Name.{Name}
 use Rattle.net_graph.specs.declared.name.NameKind.{NameKind}
 use Rattle.net_graph.specs.declared.name.NameKind.TheVariants.{Control, Window, PreAdder, Register}
 use Rattle.net_graph.specs.Cells.{NetView}
@@ -28,39 +27,33 @@ use Rattle.pipeline_balance.specs.Tree.{tree_adders}
 use Rattle.pipeline_balance.proofs.NumberedLemmas.{LeavesFree-trans, IsCounted-leaves}
 use Rattle.pipeline_balance.proofs.ShallowLemmas.{shallow_more, ArePlain-later}
 use Rattle.pipeline_balance.proofs.ShapeLemmas.{KeepsShapes-trans}
-use Rattle.stage_law.specs.Range.{IsRange}
-use Rattle.stage_law.specs.Realises.{Realises, CarriesThrough, IsOwnName, IsUnused}
+use Rattle.stage_law.specs.Realises.{Realises, CarriesThrough, IsUnused}
 use Rattle.stage_law.specs.Registers.{HeldSum}
 use Rattle.stage_law.specs.Streams.{Streams, AreCausal}
-use Rattle.stage_law.specs.Weights.{weights_of}
 use Rattle.stage_law.specs.declared.stage.Emitted.{Emitted}
-use Rattle.fir_tree.specs.declared.held.Held.{Held}
-use Rattle.fir_tree.specs.declared.reading.Reading.{Reading}
-use Rattle.fir_tree.specs.declared.reading.Reading.TheVariants.{One}
-use Rattle.fir_tree.specs.Cutting.{AddsWindow, IsCutWindow}
-use Rattle.fir_tree.specs.Form.{reading_form}
-use Rattle.fir_tree.specs.Held.{AreHeld, held_sum}
-use Rattle.fir_tree.specs.Listed.{every, unit_form, window_sums, reading_sum, reading_sums, tree_sums}
-use Rattle.fir_tree.specs.Peaks.{HoldsForm, IsDue, peaks_at}
-use Rattle.fir_tree.specs.Placed.{leaf_of}
-use Rattle.fir_tree.specs.Reading.{ReadsWithin, reading_at, all_adders}
-use Rattle.fir_tree.specs.Readers.{AddsReaders}
-use Rattle.fir_tree.specs.Sums.{AreShown}
-use Rattle.fir_tree.proofs.DueLemmas.{HoldsForm-later, IsDue-later, IsDue-soon, tree_root, tree_due, tree_many, window_due}
-use Rattle.fir_tree.proofs.LeastLemmas.{IsOwn, IsPart, has_registers}
-use Rattle.fir_tree.proofs.ListLemmas.{beside, slice_get-append_first, slice_get_past, length-window_sums, window_sums-at}
-use Rattle.fir_tree.proofs.ReadersLemmas.{IsCutWindow-later}
-use Rattle.fir_tree.proofs.TreeLemmas.{tree_adders-terms, plain_leaves}
-use Rattle.fir_tree.proofs.WidthsLemmas.{AreHeld-append, slice_get_some, slice_get_mapped}
+use Rattle.fir_pieces.specs.declared.held.Held.{Held}
+use Rattle.fir_pieces.specs.declared.reading.Reading.{Reading}
+use Rattle.fir_pieces.specs.declared.reading.Reading.TheVariants.{One}
+use Rattle.fir_pieces.specs.Cutting.{AddsWindow, IsCutWindow}
+use Rattle.fir_pieces.specs.Form.{reading_form}
+use Rattle.fir_pieces.specs.Held.{AreHeld}
+use Rattle.fir_pieces.specs.Listed.{window_sums, reading_sum, reading_sums, tree_sums}
+use Rattle.fir_pieces.specs.Peaks.{HoldsForm, IsDue, peaks_at}
+use Rattle.fir_pieces.specs.Placed.{leaf_of}
+use Rattle.fir_pieces.specs.Reading.{ReadsWithin, reading_at, all_adders}
+use Rattle.fir_pieces.specs.Readers.{AddsReaders}
+use Rattle.fir_pieces.specs.Sums.{AreShown}
+use Rattle.fir_pieces.proofs.DueLemmas.{HoldsForm-later, IsDue-later, IsDue-soon, tree_root, tree_due, tree_many}
+use Rattle.fir_pieces.proofs.LeastLemmas.{IsOwn, IsPart, own_names, window_part, has_registers}
+use Rattle.fir_pieces.proofs.ListLemmas.{beside, slice_get-append_first, slice_get_past}
+use Rattle.fir_pieces.proofs.ReadersLemmas.{IsCutWindow-later}
+use Rattle.fir_pieces.proofs.TreeLemmas.{tree_adders-terms, plain_leaves}
+use Rattle.fir_pieces.proofs.WidthsLemmas.{AreHeld-append, slice_get_some, slice_get_mapped}
 use Rattle.symmetric_fir.specs.Facts.{mirror_facts, elements_of, levels_of, later_sums}
 use Rattle.symmetric_fir.specs.Front.{AddsSums}
 use Rattle.symmetric_fir.specs.Pairs.{IsMirrored, pairs, centres, readings, mirror_terms}
 use Rattle.symmetric_fir.proofs.PairLemmas.{mirror_sum, readings_within, pair_adders, centre_adders, terms_within}
 use Rattle.symmetric_fir.proofs.SmallLemmas.{registers_small}
-
-own_name : (group : ℕ) (kind : NameKind) (name : Name) → IsTouched group kind name → IsOwnName group name
-own_name group kind name (inl h) = inl h.0
-own_name group kind name (inr h) = inr h
 
 -- a tick after that of value k
 taken_at : (period first k : ℕ) → 1 ≤ period → HasTaken period first (suc k) (suc (first + k * period))
@@ -167,26 +160,11 @@ module _ {old first new : NetView} {from : Stream} {window pair_nodes registers 
       (r.0, r.1, same_sum (reading_sums rs) k h (reading_sum r.0) is (slice_get_mapped reading_sum rs k r.0 r.1))
 
   windows_part : IsPart streams new.cells old.group from (length window) (1 + levels) Window (window_sums (length taps)) window values
-  windows_part = record {
-    many = sym long ∙ sym (length-window_sums (length taps));
-    are_held = values_held;
-    due = λ k h node at there.
-        let e = window_sums-at (length taps) k h at in
-        let from_none : k ≡ 0 + k = omega arith in
-        let many : length values ≡ length (window_sums (length taps)) = sym (length-map values held_sum) ∙ ap length values_held.same in
-        let own = slice_get_some values k (let inside = slice_get_within (window_sums (length taps)) k h at in omega (arith, many, inside)) in
-        let is_sum : held_sum own.0 ≡ h = same_sum (window_sums (length taps)) k (held_sum own.0) h (subst (λ (ss : List HeldSum). slice_get ss k ≡ Some (held_sum own.0)) values_held.same (slice_get_mapped held_sum values k own.0 own.1)) at in
-        let form : weights_of own.0.sum ≡ unit_form k = ap (λ (z : HeldSum). z.form) (is_sum ∙ e) in
-        let range : IsRange streams (unit_form k) every own.0.range = subst (λ (f : List ℤ). IsRange streams f every own.0.range) form (values_held.each k own.0 own.1) in
-        subst (λ (n : ℕ). IsDue streams new.cells from (length window) (1 + levels) old.group (name_of old.group Window n) h node) from_none
-        (subst (λ (z : HeldSum). IsDue streams new.cells from (length window) (1 + levels) old.group (name_of old.group Window k) z node) (sym e)
-        (IsDue-later after_window (window_due streams (1 + levels) causal w k node there own.0.range range)));
-    counted =
-        subst (λ (n : ℕ). IsCounted new.cells old.group Window n) (sym long ∙ sym (length-window_sums (length taps)))
-        (IsCounted-leaves old.group Window (length window) s.tree.tree.grows.extends s.tree.tree.names (λ number. no_kind Register Window (λ e. absurd (cc)) (λ e. absurd (cc)) s.middle.group old.group number)
-        (IsCounted-leaves old.group Window (length window) b.grows.extends b.names (λ number. no_kind Register Window (λ e. absurd (cc)) (λ e. absurd (cc)) s.front.between.group old.group number)
-        (IsCounted-leaves old.group Window (length window) a.grows.extends a.names (λ number. no_kind PreAdder Window (λ e. absurd (cc)) (λ e. absurd (cc)) first.group old.group number) w.counted)));
-  }
+  windows_part =
+      window_part streams (1 + levels) causal w after_window long values_held
+      (IsCounted-leaves old.group Window (length window) s.tree.tree.grows.extends s.tree.tree.names (λ number. no_kind Register Window (λ e. absurd (cc)) (λ e. absurd (cc)) s.middle.group old.group number)
+      (IsCounted-leaves old.group Window (length window) b.grows.extends b.names (λ number. no_kind Register Window (λ e. absurd (cc)) (λ e. absurd (cc)) s.front.between.group old.group number)
+      (IsCounted-leaves old.group Window (length window) a.grows.extends a.names (λ number. no_kind PreAdder Window (λ e. absurd (cc)) (λ e. absurd (cc)) first.group old.group number) w.counted)))
 
   pairs_part : IsPart streams new.cells old.group from (length window) (1 + levels) PreAdder (reading_sums (pairs anti taps)) pair_nodes pair_held
   pairs_part = record {
@@ -269,11 +247,6 @@ module _ {old first new : NetView} {from : Stream} {window pair_nodes registers 
       (LeavesFree-trans first.cells s.front.between.cells new.cells (IsTouched first.group PreAdder) (IsOwn old.group) (IsOwn old.group) (λ name h. inr (inl (subst (λ (g : ℕ). IsTouched g PreAdder name) g1 h))) (λ name h. h) a.names
       (LeavesFree-trans s.front.between.cells s.middle.cells new.cells (IsTouched s.front.between.group Register) (IsTouched s.middle.group Register) (IsOwn old.group) (λ name h. inr (inr (subst (λ (g : ℕ). IsTouched g Register name) g2 h))) (λ name h. inr (inr (subst (λ (g : ℕ). IsTouched g Register name) g3 h))) b.names s.tree.tree.names))
 
-  own_names : (name : Name) → IsOwn old.group name → IsOwnName old.group name
-  own_names name (inl h) = own_name old.group Window name h
-  own_names name (inr (inl h)) = own_name old.group PreAdder name h
-  own_names name (inr (inr h)) = own_name old.group Register name h
-
   -- ---- depth
 
   plain_nodes : IsBound first.cells → ArePlain s.middle.cells s.middle.group (pair_nodes ++ s.centre_nodes)
@@ -323,7 +296,7 @@ module _ {old first new : NetView} {from : Stream} {window pair_nodes registers 
             omega (arith, one, two, three, four, pairs_are, centres_are, terms_are);
         windows = s.tree.tree.same_named.windows old.group ∙ b.named_same.windows old.group ∙ a.named_same.windows old.group ∙ w.windows ∙ ap (λ (n : ℕ). windows_in old.group old.cells + n) (sym long);
         tables = s.tree.tree.same_named.tables old.group ∙ b.named_same.tables old.group ∙ a.named_same.tables old.group ∙ w.tables ∙ omega arith;
-        names = record { free = λ name other f. touched.free name (λ own. other (own_names name own)) f };
+        names = record { free = λ name other f. touched.free name (λ own. other (own_names old.group name own)) f };
         shallow = λ bound none. shallow_all (IsShallow-none old.cells old.group bound none);
         shapes = λ kind. (KeepsShapes-trans w.linear (KeepsShapes-trans a.linear (KeepsShapes-trans b.linear s.tree.tree.shallow.linear))).each old.group data_group;
         registers = λ linear.

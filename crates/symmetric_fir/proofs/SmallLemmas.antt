@@ -5,12 +5,12 @@ use Rattle.net_graph.specs.declared.name.NameKind.{NameKind}
 use Rattle.net_graph.specs.declared.name.NameKind.TheVariants.{Window, PreAdder, Register}
 use Rattle.stage_law.specs.Registers.{HeldSum, StageRegister}
 use Rattle.stage_law.specs.Streams.{magnitudes}
-use Rattle.fir_tree.specs.declared.reading.Reading.{Reading}
-use Rattle.fir_tree.specs.declared.reading.Reading.TheVariants.{One}
-use Rattle.fir_tree.specs.Listed.{window_sums, reading_sum, reading_sums, tree_sums, numbered}
-use Rattle.fir_tree.proofs.FormLemmas.{magnitudes_entry}
-use Rattle.fir_tree.proofs.ListLemmas.{each_numbered, each_appended}
-use Rattle.fir_tree.proofs.SmallLemmas.{AreFormsWithin, IsFormWithin, small_windows, small_reading, small_trees, small_single}
+use Rattle.fir_pieces.specs.declared.reading.Reading.{Reading}
+use Rattle.fir_pieces.specs.declared.reading.Reading.TheVariants.{One}
+use Rattle.fir_pieces.specs.Listed.{window_sums, reading_sum, reading_sums, tree_sums, numbered}
+use Rattle.fir_pieces.proofs.FormLemmas.{magnitudes_entry}
+use Rattle.fir_pieces.proofs.ListLemmas.{each_numbered, each_appended}
+use Rattle.fir_pieces.proofs.SmallLemmas.{AreFormsWithin, IsFormWithin, small_windows, small_reading, small_trees, small_single}
 use Rattle.symmetric_fir.specs.Facts.{levels_of, later_sums, registers_of}
 use Rattle.symmetric_fir.specs.Pairs.{tap, IsMirrored, is_zero, place_if, places_below, pair_places, centre_if, centre_places, pair_at, pairs, centres, readings, mirror_terms}
 use Rattle.symmetric_fir.proofs.PairLemmas.{mirror_powers}

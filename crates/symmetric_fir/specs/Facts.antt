@@ -9,8 +9,8 @@ use Rattle.stage_law.specs.Facts.{StageFacts}
 use Rattle.stage_law.specs.Registers.{HeldSum, StageRegister}
 use Rattle.stage_law.specs.Streams.{magnitudes}
 use Rattle.stage_law.specs.declared.stage.Kind.TheVariants.{Symmetric as SymmetricKind}
-use Rattle.fir_tree.specs.Listed.{window_sums, reading_sums, tree_sums, numbered}
-use Rattle.fir_tree.specs.Placed.{term_adders}
+use Rattle.fir_pieces.specs.Listed.{window_sums, reading_sums, tree_sums, numbered}
+use Rattle.fir_pieces.specs.Placed.{term_adders}
 use Rattle.symmetric_fir.specs.Pairs.{pair_places, pairs, centres, readings, mirror_terms}
 
 abbrev pub elements_of : List ℤ → ℕ → List Element

@@ -4,9 +4,9 @@ use Rattle.net_graph.specs.declared.cell.Node.{Node}
 use Rattle.net_graph.specs.declared.name.NameKind.TheVariants.{PreAdder, Register}
 use Rattle.net_graph.specs.Cells.{NetView}
 use Rattle.stage_law.specs.Streams.{Streams}
-use Rattle.fir_tree.specs.declared.held.Held.{Held}
-use Rattle.fir_tree.specs.Readers.{AddsReaders}
-use Rattle.fir_tree.specs.Sums.{AddsTree}
+use Rattle.fir_pieces.specs.declared.held.Held.{Held}
+use Rattle.fir_pieces.specs.Readers.{AddsReaders}
+use Rattle.fir_pieces.specs.Sums.{AddsTree}
 use Rattle.symmetric_fir.specs.Pairs.{pairs, centres, readings, mirror_terms}
 
 -- the new net has registers over the pairs and the centre of a window

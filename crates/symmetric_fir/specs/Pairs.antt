@@ -2,8 +2,8 @@
 use Rattle.std.specs.Prelude.{◌≡◌, ℕ, zero, suc, ◌-◌, ◌/◌, ◌%◌, ◌<◌, ◌≤◌, Bool, true, false, if◌then◌else◌, List, [], ◌∷◌, ◌++◌, length, map, slice_index_or, ℤ, pos, negsuc, neg_ℤ}
 use Rattle.signed_digit.specs.declared.term_list.Term.{Term}
 use Rattle.signed_digit.specs.Terms.{terms_of}
-use Rattle.fir_tree.specs.declared.reading.Reading.{Reading}
-use Rattle.fir_tree.specs.declared.reading.Reading.TheVariants.{One, Sum, Difference}
+use Rattle.fir_pieces.specs.declared.reading.Reading.{Reading}
+use Rattle.fir_pieces.specs.declared.reading.Reading.TheVariants.{One, Sum, Difference}
 
 abbrev pub tap : List ℤ → ℕ → ℤ
 tap taps i = slice_index_or taps i (pos 0)

@@ -1,12 +1,12 @@
 // The levels and the adders of a filter with mirrored taps.
 
 ghost use Rattle.std.specs.Prelude.{◌≡◌, ◌+◌, ◌^◌, ◌≤◌, length, IfOk};
-ghost use Rattle.fir_tree.specs.Placed.{term_adders};
+ghost use Rattle.fir_pieces.specs.Placed.{term_adders};
 ghost use Rattle.symmetric_fir.specs.Facts.{levels_of};
 ghost use Rattle.symmetric_fir.specs.Pairs.{pair_places, mirror_terms};
 
 use crate::pairs::pairs_of;
-use fir_tree::{adders_for, all_minus, ceil_log};
+use fir_pieces::{adders_for, all_minus, ceil_log};
 use mr_values::{Memory, count_terms};
 use signed_digit::terms;
 use std::alloc::Global;

@@ -3,12 +3,12 @@
 ghost use Rattle.std.specs.Prelude.{◌≡◌, ℕ, ◌^◌, ◌≤◌, ◌<◌, ◌*◌, length, IfOk};
 ghost use Rattle.net_graph.specs.Grow.{Extends};
 ghost use Rattle.stage_law.specs.Streams.{AreWithin};
-ghost use Rattle.fir_tree.specs.Readers.{AreNodes};
+ghost use Rattle.fir_pieces.specs.Readers.{AreNodes};
 ghost use Rattle.symmetric_fir.specs.Front.{AddsFront};
 ghost use Rattle.symmetric_fir.specs.Pairs.{pairs, centres};
 
 use crate::pairs::Pairs;
-use fir_tree::{Readers, add_readers};
+use fir_pieces::{Readers, add_readers};
 use mr_values::Memory;
 use net_graph::{NameKind, Net, Node};
 use stage_law::Ranges;

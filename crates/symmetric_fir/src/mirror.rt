@@ -2,7 +2,7 @@
 
 ghost use Rattle.std.specs.Prelude.{◌≡◌, ◌+◌, ◌≤◌, ◌^◌, length};
 ghost use Rattle.mr_values.specs.Value.{AreTaps};
-ghost use Rattle.fir_tree.specs.Placed.{term_adders};
+ghost use Rattle.fir_pieces.specs.Placed.{term_adders};
 ghost use Rattle.symmetric_fir.specs.Facts.{levels_of};
 ghost use Rattle.symmetric_fir.specs.Pairs.{IsMirrored, pair_places, mirror_terms};
 

@@ -1,10 +1,10 @@
 // The pairs of mirrored taps.
 
 ghost use Rattle.std.specs.Prelude.{◌≡◌, ◌+◌, ◌*◌, ◌/◌, ◌%◌, ◌<◌, ◌≤◌, ◌++◌, length, map, IfOk};
-ghost use Rattle.fir_tree.specs.declared.reading.Reading.TheVariants.{One};
+ghost use Rattle.fir_pieces.specs.declared.reading.Reading.TheVariants.{One};
 ghost use Rattle.symmetric_fir.specs.Pairs.{tap, place_if, pair_at, pairs, centres, firsts, centre_places};
 
-use fir_tree::Reading;
+use fir_pieces::Reading;
 use mr_values::Memory;
 use std::alloc::Global;
 

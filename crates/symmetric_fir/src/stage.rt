@@ -5,7 +5,7 @@ ghost use Rattle.symmetric_fir.specs.Facts.{mirror_facts, TakesPeriod};
 
 use crate::mirror::Mirror;
 use crate::sums::Sums;
-use fir_tree::{cut_window, push_peaks, window_held};
+use fir_pieces::{cut_window, push_peaks, window_held};
 use mr_values::Memory;
 use net_graph::{Net, Stream};
 use stage_law::{Cost, Emitted, Kind, Ranges, Rates, Stage};

@@ -3,13 +3,13 @@
 ghost use Rattle.std.specs.Prelude.{◌≡◌, ℕ, ◌++◌, ◌^◌, ◌≤◌, ◌<◌, ◌*◌, length, IfOk};
 ghost use Rattle.net_graph.specs.Grow.{Extends};
 ghost use Rattle.stage_law.specs.Streams.{HasRoom, magnitudes};
-ghost use Rattle.fir_tree.specs.Readers.{AreNodes};
+ghost use Rattle.fir_pieces.specs.Readers.{AreNodes};
 ghost use Rattle.symmetric_fir.specs.Front.{AddsSums};
 
 use crate::front::{Front, add_front};
 use crate::mirror::Mirror;
 use crate::pairs::{Pairs, pairs_of};
-use fir_tree::{Held, Readers, Reading, Shown, Tree, sum_tree};
+use fir_pieces::{Held, Readers, Reading, Shown, Tree, sum_tree};
 use mr_values::Memory;
 use net_graph::{Net, Node};
 use signed_digit::terms;

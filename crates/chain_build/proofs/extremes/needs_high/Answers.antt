@@ -2,7 +2,7 @@ use Rattle.std.proofs.Common.{ℕ, ℤ, FitsSigned, ap, subst, nat_eq, rules}
 use Rattle.std.proofs.lemmas.Int.{to_z-of_z}
 use mir.Syntax.{w128}
 use Rattle.mr_values.specs.Width.{IsLeastWidth}
-use Rattle.polyphase_fir.proofs.PeakLemmas.{high_bits}
+use Rattle.fir_pieces.proofs.PeakLemmas.{high_bits}
 use Rattle.chain_build.proofs.extremes.needs_high.Goals as goal
 
 pub returns : goal.returns

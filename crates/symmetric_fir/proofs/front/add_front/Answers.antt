@@ -1,7 +1,7 @@
 use Rattle.std.proofs.Common.{◌≡◌, ◌∙◌, ℕ, List, length, sym, subst, All}
 use Rattle.net_graph.proofs.NetLemmas.{Extends-trans}
-use Rattle.fir_tree.specs.declared.reading.Reading.{Reading}
-use Rattle.fir_tree.specs.Reading.{ReadsWithin}
+use Rattle.fir_pieces.specs.declared.reading.Reading.{Reading}
+use Rattle.fir_pieces.specs.Reading.{ReadsWithin}
 use Rattle.symmetric_fir.specs.Pairs.{pairs}
 use Rattle.symmetric_fir.proofs.PairLemmas.{pairs_within}
 use Rattle.symmetric_fir.proofs.front.add_front.Goals as goal

@@ -1,7 +1,7 @@
 use Rattle.std.proofs.Common.{◌≡◌, ◌∙◌, ◌+◌, ◌/◌, ◌++◌, ℕ, suc, List, ℤ, length, map, sym, ap, arith}
 use Rattle.std.proofs.lemmas.List.{map-append}
-use Rattle.fir_tree.specs.declared.reading.Reading.{Reading}
-use Rattle.fir_tree.specs.declared.reading.Reading.TheVariants.{One}
+use Rattle.fir_pieces.specs.declared.reading.Reading.{Reading}
+use Rattle.fir_pieces.specs.declared.reading.Reading.TheVariants.{One}
 use Rattle.symmetric_fir.specs.Pairs.{tap, place_if, places_below, pair_places, centre_places, pair_at}
 use Rattle.symmetric_fir.proofs.pairs.pairs_of.Goals as goal
 

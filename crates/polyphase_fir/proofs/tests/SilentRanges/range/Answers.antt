@@ -1,4 +1,4 @@
-use Rattle.polyphase_fir.proofs.SilentLemmas.{IsRange-silent}
+use Rattle.fir_pieces.proofs.SilentLemmas.{IsRange-silent}
 use Rattle.polyphase_fir.proofs.tests.SilentRanges.range.Goals as goal
 
 pub returns : goal.returns

@@ -3,8 +3,8 @@ use Rattle.net_graph.specs.declared.cell.Node.{Node}
 use Rattle.net_graph.proofs.NetLemmas.{Extends-trans}
 use Rattle.signed_digit.specs.declared.term_list.Term.{Term}
 use Rattle.signed_digit.specs.Terms.{terms_of}
-use Rattle.fir_tree.specs.declared.reading.Reading.{Reading}
-use Rattle.fir_tree.specs.Sums.{AddsTree, IsReady}
+use Rattle.fir_pieces.specs.declared.reading.Reading.{Reading}
+use Rattle.fir_pieces.specs.Sums.{AddsTree, IsReady}
 use Rattle.symmetric_fir.specs.Front.{AddsFront}
 use Rattle.symmetric_fir.specs.Pairs.{pairs, centres, readings, firsts, mirror_terms}
 use Rattle.symmetric_fir.proofs.PairLemmas.{length-firsts}

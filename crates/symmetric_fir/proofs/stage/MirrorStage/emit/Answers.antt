@@ -3,10 +3,10 @@ use Rattle.std.proofs.lemmas.List.{length-map, append_assoc}
 use Rattle.net_graph.specs.declared.cell.Node.{Node}
 use Rattle.net_graph.proofs.NetLemmas.{Extends-trans}
 use Rattle.stage_law.specs.declared.stage.Peak.{Peak}
-use Rattle.fir_tree.specs.Held.{AreHeld, held_sum}
-use Rattle.fir_tree.specs.Listed.{window_sums}
-use Rattle.fir_tree.specs.Peaks.{peaks_at}
-use Rattle.fir_tree.proofs.ListLemmas.{length-window_sums}
+use Rattle.fir_pieces.specs.Held.{AreHeld, held_sum}
+use Rattle.fir_pieces.specs.Listed.{window_sums}
+use Rattle.fir_pieces.specs.Peaks.{peaks_at}
+use Rattle.fir_pieces.proofs.ListLemmas.{length-window_sums}
 use Rattle.symmetric_fir.specs.Facts.{levels_of}
 use Rattle.symmetric_fir.specs.Front.{AddsSums}
 use Rattle.symmetric_fir.proofs.ReadyLemmas.{low_levels, pairs_many, later_many, given_stream}

@@ -1,4 +1,4 @@
-use Rattle.fir_tree.proofs.SilentLemmas.{IsRange-silent}
+use Rattle.fir_pieces.proofs.SilentLemmas.{IsRange-silent}
 use Rattle.symmetric_fir.proofs.tests.SilentRanges.range.Goals as goal
 
 pub returns : goal.returns

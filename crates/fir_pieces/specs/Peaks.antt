@@ -1,0 +1,47 @@
+-- The peaks of registers, and what the registers hold.
+use Rattle.std.specs.Prelude.{◌≡◌, ℕ, suc, ◌+◌, ◌<◌, ◌≤◌, nat_eq, if◌then◌else◌, List, [], ◌∷◌, ◌++◌, length, ℤ, pos, ◌-ℤ◌}
+use Rattle.mr_values.specs.Sequence.{Sequence, weighted_sum}
+use Rattle.net_graph.specs.declared.cell.Cell.{Cell}
+use Rattle.net_graph.specs.declared.cell.Node.{Node}
+use Rattle.net_graph.specs.declared.cell.Stream.{Stream}
+use Rattle.net_graph.specs.declared.name.Name.{Name}
+use Rattle.net_graph.specs.Cut.{Cut, IsCut}
+use Rattle.net_graph.specs.Run.{Values, IsRun}
+use Rattle.pipeline_balance.specs.Gate.{Carries, HasTaken}
+use Rattle.pipeline_balance.specs.Numbered.{IsRegister}
+use Rattle.stage_law.specs.Registers.{HeldSum, needs_high}
+use Rattle.stage_law.specs.Streams.{Streams}
+use Rattle.stage_law.specs.declared.stage.Peak.{Peak}
+use Rattle.fir_pieces.specs.declared.held.Held.{Held}
+use Rattle.fir_pieces.specs.Listed.{every}
+use Rattle.fir_pieces.specs.Held.{IsFormWidth}
+
+-- the peak of a register that holds this: none where one bit is wide enough
+abbrev pub peak_at : Node → Held → List Peak
+peak_at node own = if nat_eq own.width 1 then [] else record { register = node; sum = own.sum; class = every; lag = own.lag; high = needs_high own.range own.width } ∷ []
+
+-- the peaks of these registers, in their order
+abbrev pub peaks_at : List Held → List Node → List Peak
+peaks_at [] nodes = []
+peaks_at (own ∷ held) [] = []
+peaks_at (own ∷ held) (node ∷ nodes) = peak_at node own ++ peaks_at held nodes
+
+-- In each run in which the stream carries one of these streams, the node is 0 before so many ticks, and holds then the form's sum at the
+-- last value that was taken so many ticks before.
+pub record HoldsForm (streams : Streams) (cells : List Cell) (from : Stream) (form : List ℤ) (ticks : ℕ) (node : Node) : Type 0 where
+  pub early : (cut : Cut) → IsCut cut → (inputs : ℕ → ℤ) (values : Values) (v : Sequence) → streams v → IsRun cut cells inputs values → Carries values from v
+      → (t : ℕ) → t < ticks → values t node.place ≡ pos 0
+  pub late : (cut : Cut) → IsCut cut → (inputs : ℕ → ℤ) (values : Values) (v : Sequence) → streams v → IsRun cut cells inputs values → Carries values from v
+      → (s count : ℕ) → HasTaken from.period from.offset count s → values (s + ticks) node.place ≡ weighted_sum form (λ i. v (pos count -ℤ pos 1 -ℤ pos i))
+
+-- the node is a register of this name that holds this sum over at most so many values, so many levels later, and has the least width for it
+pub record IsDue (streams : Streams) (cells : List Cell) (from : Stream) (depth levels group : ℕ) (name : Name) (s : HeldSum) (node : Node) : Type 0 where
+  pub width : ℕ
+  pub register : IsRegister cells node.place group name width
+  pub is_class : s.class ≡ every
+  pub short : length s.form ≤ depth
+  pub ticks : ℕ
+  pub is_lag : s.lag ≡ suc ticks
+  pub soon : ticks ≤ levels
+  pub holds : HoldsForm streams cells from s.form ticks node
+  pub least : IsFormWidth streams s.form width

@@ -1,6 +1,0 @@
-use Rattle.fir_tree.specs.Listed.{window_sums}
-use Rattle.fir_tree.specs.Held.{AreHeld}
-use Rattle.fir_tree.proofs.peaks.window_held.Given as goal
-
-abbrev pub invariant-loop-age : goal.invariant-loop-age
-invariant-loop-age g l = AreHeld (g.R.Ranges.streams l.ranges) (window_sums l.age) l.held.items

@@ -1,6 +1,0 @@
-use Rattle.fir_tree.specs.Listed.{tree_sums}
-use Rattle.fir_tree.specs.Held.{AreHeld}
-use Rattle.fir_tree.proofs.widths.tree_held.Given as goal
-
-abbrev pub invariant-loop-level : goal.invariant-loop-level
-invariant-loop-level g l = AreHeld (g.R.Ranges.streams l.ranges) (tree_sums l.readings l.ticks l.terms l.level) l.held.items

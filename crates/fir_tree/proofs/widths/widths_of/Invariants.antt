@@ -1,6 +1,0 @@
-use Rattle.std.proofs.Common.{◌≡◌, map, take}
-use Rattle.fir_tree.specs.declared.held.Held.{Held}
-use Rattle.fir_tree.proofs.widths.widths_of.Given as goal
-
-abbrev pub invariant-loop-own : goal.invariant-loop-own
-invariant-loop-own l = l.widths.items ≡ map (λ (own : Held). own.width) (take l.own-index l.held)

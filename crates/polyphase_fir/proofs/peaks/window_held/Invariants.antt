@@ -1,6 +1,0 @@
-use Rattle.polyphase_fir.specs.Listed.{window_sums}
-use Rattle.polyphase_fir.specs.Held.{AreHeld}
-use Rattle.polyphase_fir.proofs.peaks.window_held.Given as goal
-
-abbrev pub invariant-loop-age : goal.invariant-loop-age
-invariant-loop-age g l = AreHeld (g.R.Ranges.streams l.ranges) (window_sums l.age) l.held.items
