@@ -28,7 +28,7 @@ use Rattle.cic_chain.specs.Cascade.{whole, decimator, interpolator}
 use Rattle.cic_chain.specs.Facts.{cic_down_facts, cic_up_facts}
 use Rattle.cic_chain.specs.Pieces.{IsPiece, AddsDecimator, AddsInterpolator, sampled}
 use Rattle.cic_chain.specs.Phases.{IsPhaseRange}
-use Rattle.cic_chain.specs.Weights.{moving_sums}
+use Rattle.running_sums.specs.Weights.{cic_weights}
 use Rattle.cic_chain.proofs.WeightLemmas.{filter-sums, magnitudes-sums}
 use Rattle.cic_chain.proofs.WholeLemmas.{whole_down}
 use Rattle.cic_chain.proofs.UpLemmas.{whole_up, wrapped_up}
@@ -70,11 +70,11 @@ Realises-piece {old} {new} {from} {to} streams facts emitted is not_linear data_
 }
 
 -- there is room for every sum of the element
-pub room_for : (streams : Streams) (stages m : ℕ) (form : List ℤ) → HasRoom streams (m ^ stages) → magnitudes form ≤ magnitudes (moving_sums stages m) → (most : ℕ) × AreWithin streams most × (most * magnitudes form ≤ 2 ^ 126)
+pub room_for : (streams : Streams) (stages m : ℕ) (form : List ℤ) → HasRoom streams (m ^ stages) → magnitudes form ≤ magnitudes (cic_weights stages m) → (most : ℕ) × AreWithin streams most × (most * magnitudes form ≤ 2 ^ 126)
 room_for streams stages m form h few =
-    let all : h.most * magnitudes form ≤ h.most * magnitudes (moving_sums stages m) = mul-le-mul_left h.most few in
+    let all : h.most * magnitudes form ≤ h.most * magnitudes (cic_weights stages m) = mul-le-mul_left h.most few in
     let after = h.after in
-    let gain : h.most * magnitudes (moving_sums stages m) ≡ h.most * m ^ stages = ap (λ (n : ℕ). h.most * n) (magnitudes-sums stages m) in
+    let gain : h.most * magnitudes (cic_weights stages m) ≤ h.most * m ^ stages = mul-le-mul_left h.most (magnitudes-sums stages m) in
     (h.most, h.within, omega (arith, all, gain, after))
 
 -- ---- the decimator
@@ -83,17 +83,17 @@ every_factor : (factor n : ℕ) → (n * factor) % factor ≡ 0
 every_factor factor n = mul-mod_left n factor
 
 module _ (streams : Streams) (factor stages delay : ℕ) where
-  pub down_value : (v : Sequence) (n : ℕ) → cic_down factor stages delay v (pos n) ≡ filter (moving_sums stages (factor * delay)) v (pos (n * factor))
+  pub down_value : (v : Sequence) (n : ℕ) → cic_down factor stages delay v (pos n) ≡ filter (cic_weights stages (factor * delay)) v (pos (n * factor))
   down_value v n = let index : pos n *ℤ pos factor ≡ pos (n * factor) = omega (arith, ints) in ap (filter_times stages (ones (factor * delay)) v) index ∙ sym (filter-sums stages (factor * delay) v (pos (n * factor)))
 
-  pub down_fits : (range : Range) (width : ℕ) → IsRange streams (moving_sums stages (factor * delay)) (record { modulus = factor; residue = 0 }) range → IsLeastWidth range.lo range.hi width
+  pub down_fits : (range : Range) (width : ℕ) → IsRange streams (cic_weights stages (factor * delay)) (record { modulus = factor; residue = 0 }) range → IsLeastWidth range.lo range.hi width
       → (v : Sequence) → streams v → (n : ℕ) → FitsWidth width (cic_down factor stages delay v (pos n))
   down_fits range width r w v is n =
       subst (FitsWidth width) (sym (down_value v n))
-      (fits_between width range.lo (filter (moving_sums stages (factor * delay)) v (pos (n * factor))) range.hi w.holds_low w.holds_high (r.low v is (n * factor) (every_factor factor n)) (r.high v is (n * factor) (every_factor factor n)))
+      (fits_between width range.lo (filter (cic_weights stages (factor * delay)) v (pos (n * factor))) range.hi w.holds_low w.holds_high (r.low v is (n * factor) (every_factor factor n)) (r.high v is (n * factor) (every_factor factor n)))
 
   pub Realises-down : {old new : NetView} {from to : Stream} {width : ℕ} {range : Range} (emitted : Emitted) → emitted.stream ≡ to → AreCausal streams → 1 ≤ stages → 1 ≤ old.group → from.node.place < length old.cells
-      → IsRange streams (moving_sums stages (factor * delay)) (record { modulus = factor; residue = 0 }) range → IsLeastWidth range.lo range.hi width
+      → IsRange streams (cic_weights stages (factor * delay)) (record { modulus = factor; residue = 0 }) range → IsLeastWidth range.lo range.hi width
       → AddsDecimator old new from width factor stages delay to → Realises (cic_down_facts factor stages delay) streams old new from emitted
   Realises-down {old} {new} {from} {to} {width} {range} emitted is causal some data_group inside r w d =
       Realises-piece streams (cic_down_facts factor stages delay) emitted is refl data_group inside d.piece (omega arith) refl refl (let p = d.period in omega (arith, p)) d.offset
@@ -112,17 +112,17 @@ in_every : (k : ℕ) → k % 1 ≡ 0
 in_every k = omega arith
 
 module _ (streams : Streams) (factor stages delay : ℕ) where
-  up_value : (v : Sequence) (m : ℕ) → 1 ≤ factor → cic_up factor stages delay v (pos m) ≡ filter (phase factor (m % factor) (moving_sums stages (factor * delay))) v (pos (m / factor))
+  up_value : (v : Sequence) (m : ℕ) → 1 ≤ factor → cic_up factor stages delay v (pos m) ≡ filter (phase factor (m % factor) (cic_weights stages (factor * delay))) v (pos (m / factor))
   up_value v m some =
-      let w : List ℤ = moving_sums stages (factor * delay) in
+      let w : List ℤ = cic_weights stages (factor * delay) in
       let split : pos m ≡ pos (m / factor) *ℤ pos factor +ℤ pos (m % factor) = omega (arith, ints, div-add-mod' m factor) in
       sym (filter-sums stages (factor * delay) (up factor v) (pos m)) ∙ ap (filter w (up factor v)) split ∙ filter-up w factor v (pos (m / factor)) (m % factor) (mod-lt m some)
 
-  pub up_fits : (range : Range) (width : ℕ) → 1 ≤ factor → IsPhaseRange streams (moving_sums stages (factor * delay)) factor factor range → IsLeastWidth range.lo range.hi width
+  pub up_fits : (range : Range) (width : ℕ) → 1 ≤ factor → IsPhaseRange streams (cic_weights stages (factor * delay)) factor factor range → IsLeastWidth range.lo range.hi width
       → (v : Sequence) → streams v → (m : ℕ) → FitsWidth width (cic_up factor stages delay v (pos m))
   up_fits range width some r w v is m =
       let k : ℕ = m / factor in
-      let value : ℤ = filter (phase factor (m % factor) (moving_sums stages (factor * delay))) v (pos k) in
+      let value : ℤ = filter (phase factor (m % factor) (cic_weights stages (factor * delay))) v (pos k) in
       let own = r.each (m % factor) (mod-lt m some) in
       let own_low = own.1.is_range.low v is k (in_every k) in
       let own_high = own.1.is_range.high v is k (in_every k) in
@@ -135,7 +135,7 @@ module _ (streams : Streams) (factor stages delay : ℕ) where
   fast_is q period some e = sym (ap (λ (n : ℕ). n / factor) (sym e) ∙ mul-div_cancel q some)
 
   pub Realises-up : {old new : NetView} {from to : Stream} {width : ℕ} {range : Range} (emitted : Emitted) → emitted.stream ≡ to → AreCausal streams → 1 ≤ stages → 1 ≤ factor → 1 ≤ old.group → from.node.place < length old.cells
-      → IsPhaseRange streams (moving_sums stages (factor * delay)) factor factor range → IsLeastWidth range.lo range.hi width
+      → IsPhaseRange streams (cic_weights stages (factor * delay)) factor factor range → IsLeastWidth range.lo range.hi width
       → AddsInterpolator old new from width factor stages delay to → Realises (cic_up_facts factor stages delay) streams old new from emitted
   Realises-up {old} {new} {from} {to} {width} {range} emitted is causal some factor_some data_group inside r w d =
       Realises-piece streams (cic_up_facts factor stages delay) emitted is refl data_group inside d.piece (omega arith) refl refl (let p = d.period in omega (arith, p))

@@ -20,7 +20,7 @@ use Rattle.stage_law.specs.declared.ranges.Range.{Range}
 use Rattle.cic_chain.specs.Phases.{every, IsPhaseRange}
 use Rattle.cic_chain.specs.Pieces.{HasRegister, IsPiece}
 use Rattle.cic_chain.specs.Registers.{IsOutputWidth, HasRegistersOf, HasCascade}
-use Rattle.cic_chain.specs.Weights.{moving_sums}
+use Rattle.running_sums.specs.Weights.{cic_weights}
 use Rattle.cic_chain.proofs.RealisesLemmas.{down_value, down_fits, up_fits}
 use Rattle.cic_chain.proofs.WeightLemmas.{filter-sums}
 
@@ -48,26 +48,26 @@ HasRegistersOf-piece {old} {new} {from} {to} {width} {registers} unused p = reco
 }
 
 module _ (streams : Streams) (factor stages delay : ℕ) where
-  pub down_width : (range : Range) (width : ℕ) → 1 ≤ factor → IsRange streams (moving_sums stages (factor * delay)) (record { modulus = factor; residue = 0 }) range → IsLeastWidth range.lo range.hi width → IsOutputWidth streams (cic_down factor stages delay) width
+  pub down_width : (range : Range) (width : ℕ) → 1 ≤ factor → IsRange streams (cic_weights stages (factor * delay)) (record { modulus = factor; residue = 0 }) range → IsLeastWidth range.lo range.hi width → IsOutputWidth streams (cic_down factor stages delay) width
   down_width range width some r w = record {
     holds = λ v is n. down_fits streams factor stages delay range width r w v is n;
     least = λ fewer positive fits. w.least fewer positive (end range.lo r.low_reached fewer fits) (end range.hi r.high_reached fewer fits);
   }
     where
-      end : (z : ℤ) → IsReached streams (moving_sums stages (factor * delay)) (record { modulus = factor; residue = 0 }) z → (fewer : ℕ) → ((v : Sequence) → streams v → (n : ℕ) → FitsWidth fewer (cic_down factor stages delay v (pos n))) → FitsWidth fewer z
+      end : (z : ℤ) → IsReached streams (cic_weights stages (factor * delay)) (record { modulus = factor; residue = 0 }) z → (fewer : ℕ) → ((v : Sequence) → streams v → (n : ℕ) → FitsWidth fewer (cic_down factor stages delay v (pos n))) → FitsWidth fewer z
       end z a fewer fits =
           let n = a.index / factor in
           let in_class = a.in_class in
           let index : n * factor ≡ a.index = omega (arith, div-add-mod' a.index factor, in_class) in
-          subst (FitsWidth fewer) (down_value streams factor stages delay a.stream n ∙ ap (λ (k : ℕ). filter (moving_sums stages (factor * delay)) a.stream (pos k)) index ∙ a.is) (fits a.stream a.is_one n)
+          subst (FitsWidth fewer) (down_value streams factor stages delay a.stream n ∙ ap (λ (k : ℕ). filter (cic_weights stages (factor * delay)) a.stream (pos k)) index ∙ a.is) (fits a.stream a.is_one n)
 
-  up_at : (v : Sequence) (k r : ℕ) → r < factor → cic_up factor stages delay v (pos (k * factor + r)) ≡ filter (phase factor r (moving_sums stages (factor * delay))) v (pos k)
+  up_at : (v : Sequence) (k r : ℕ) → r < factor → cic_up factor stages delay v (pos (k * factor + r)) ≡ filter (phase factor r (cic_weights stages (factor * delay))) v (pos k)
   up_at v k r h =
-      let w : List ℤ = moving_sums stages (factor * delay) in
+      let w : List ℤ = cic_weights stages (factor * delay) in
       let split : pos (k * factor + r) ≡ pos k *ℤ pos factor +ℤ pos r = omega (arith, ints) in
       sym (filter-sums stages (factor * delay) (up factor v) (pos (k * factor + r))) ∙ ap (filter w (up factor v)) split ∙ filter-up w factor v (pos k) r h
 
-  pub up_width : (range : Range) (width : ℕ) → 1 ≤ factor → IsPhaseRange streams (moving_sums stages (factor * delay)) factor factor range → IsLeastWidth range.lo range.hi width → IsOutputWidth streams (cic_up factor stages delay) width
+  pub up_width : (range : Range) (width : ℕ) → 1 ≤ factor → IsPhaseRange streams (cic_weights stages (factor * delay)) factor factor range → IsLeastWidth range.lo range.hi width → IsOutputWidth streams (cic_up factor stages delay) width
   up_width range width some r w = record {
     holds = λ v is n. up_fits streams factor stages delay range width some r w v is n;
     least = λ fewer positive fits. w.least fewer positive
@@ -81,7 +81,7 @@ module _ (streams : Streams) (factor stages delay : ℕ) where
         ]);
   }
     where
-      end : (r : ℕ) → r < factor → (z : ℤ) → IsReached streams (phase factor r (moving_sums stages (factor * delay))) every z → (fewer : ℕ) → ((v : Sequence) → streams v → (n : ℕ) → FitsWidth fewer (cic_up factor stages delay v (pos n))) → FitsWidth fewer z
+      end : (r : ℕ) → r < factor → (z : ℤ) → IsReached streams (phase factor r (cic_weights stages (factor * delay))) every z → (fewer : ℕ) → ((v : Sequence) → streams v → (n : ℕ) → FitsWidth fewer (cic_up factor stages delay v (pos n))) → FitsWidth fewer z
       end r inside z a fewer fits = subst (FitsWidth fewer) (up_at a.stream a.index r inside ∙ a.is) (fits a.stream a.is_one (a.index * factor + r))
 
 pub HasCascade-piece : {streams : Streams} {element : Sequence → Sequence} {old new : NetView} {from to : Node} {width : ℕ} (stages delay : ℕ) {adders : ℕ} → IsUnused old.cells old.group → IsPiece old new from to width (stages + stages * (delay + 1)) adders → IsOutputWidth streams element width

@@ -3,4 +3,3 @@ pub mod Facts
 pub mod Phases
 pub mod Pieces
 pub mod Registers
-pub mod Weights

@@ -8,7 +8,6 @@ mod laws;
 mod phases;
 mod registers;
 mod stages;
-mod weights;
 
 pub use laws::law_of_cascades;
 pub use stages::{CicDown, CicUp};

@@ -1,14 +1,24 @@
 // The range of what an interpolator gives.
 
-ghost use Rattle.std.specs.Prelude.{◌≡◌, ℕ, ◌*◌, ◌<◌, ◌≤◌, ◌^◌, ◌⊎◌, ◌≤ℤ◌, IfOk};
-ghost use Rattle.mr_values.specs.Sequence.{phase};
+ghost use Rattle.std.specs.Prelude.{◌≡◌, ℕ, pos, ◌*◌, ◌<◌, ◌≤◌, ◌^◌, ◌⊎◌, ◌≤ℤ◌, IfOk};
+ghost use Rattle.mr_values.specs.Sequence.{phase, samples};
 ghost use Rattle.stage_law.specs.Streams.{AreWithin, magnitudes};
 ghost use Rattle.cic_chain.specs.Phases.{IsPhaseRange};
 
-use crate::weights::weight_at;
 use mr_values::Memory;
 use stage_law::{Class, Range, Ranges, WeightedSum};
 use std::alloc::Global;
+
+// The weight at a place, 0 behind the last.
+fn weight_at(weights: &[i128], place: usize) -> i128
+    ensures { result ≡ samples weights.now (pos place) }
+{
+    if place < weights.len() {
+        weights[place]
+    } else {
+        0
+    }
+}
 
 // Every `factor`-th weight, from this place on.
 fn phase_of(

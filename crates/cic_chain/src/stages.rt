@@ -12,9 +12,9 @@ ghost use Rattle.cic_chain.specs.Registers.{HasCascade, IsCascadeOf};
 use crate::decimator::decimate;
 use crate::interpolator::interpolate;
 use crate::phases::phase_range;
-use crate::weights::moving_sums;
 use mr_values::{Memory, least_width};
 use net_graph::{Net, Stream};
+use running_sums::cic_weights;
 use stage_law::{Class, Cost, Emitted, Kind, Range, Ranges, Rates, Stage, WeightedSum};
 use std::alloc::Global;
 
@@ -64,7 +64,7 @@ impl<const N: usize, const D: usize> CicDown<N, D> {
         ensures extends { Extends net.old.cells net.new.cells }
         ensures same_group { net.new.group ≡ net.old.group }
     {
-        let weights = moving_sums(alloc, N, self.factor as usize * D)?;
+        let weights = cic_weights(alloc, N, self.factor as usize * D)?;
         let sum = WeightedSum { behind: 0, weights };
         let kept = Class {
             modulus: self.factor,
@@ -175,7 +175,7 @@ impl<const N: usize, const D: usize> CicUp<N, D> {
         ensures extends { Extends net.old.cells net.new.cells }
         ensures same_group { net.new.group ≡ net.old.group }
     {
-        let weights = moving_sums(alloc, N, self.factor as usize * D)?;
+        let weights = cic_weights(alloc, N, self.factor as usize * D)?;
         let range = phase_range(alloc, weights.as_slice(), self.factor, ranges)?;
         let width = width_of(range);
         let stream = interpolate(alloc, net, from, self.factor, N, D, width)?;

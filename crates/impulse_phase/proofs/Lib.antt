@@ -2,6 +2,7 @@ pub mod Arms
 pub mod Ends
 pub mod Examples
 pub mod Gain
+pub mod MovingRows
 pub mod Places
 pub mod Prefix
 pub mod Prefixes

@@ -7,8 +7,7 @@ use Rattle.std.proofs.lemmas.Int.{ints}
 use Rattle.std.proofs.lemmas.Nat.{div-add-mod', mod_below}
 use Rattle.std.proofs.lemmas.List.{map-append, length-map, length_push, get_or_push, get_or_append_left}
 use Rattle.mr_values.specs.Width.{floor_quotient, floor_remainder}
-use Rattle.mr_values.specs.Sequence.{Sequence, ones}
-use Rattle.plan_check.specs.Amounts.{magnitude}
+use Rattle.mr_values.specs.Sequence.{Sequence}
 use Rattle.mr_values.specs.Value.{size}
 use Rattle.mr_values.proofs.Division.{floor_unique, floor_split, floor_remainder_below}
 use Rattle.impulse_phase.specs.declared.table.Row.{Row}
@@ -17,7 +16,6 @@ use Rattle.impulse_phase.specs.Response.{Response, Responses, later, combined, t
 use Rattle.impulse_phase.specs.Reading.{as_response, silent, rows_of, cycle_of, told, responses_of, IsTable, IsAhead, Passes, IsPlaceBefore}
 use Rattle.impulse_phase.proofs.Steps.{recurs-times}
 use Rattle.impulse_phase.proofs.Prefix.{common-turns}
-use Rattle.impulse_phase.proofs.Gain.{magnitude-ones}
 use Rattle.impulse_phase.proofs.Sums.{combined-all}
 
 -- the rows so far tell the responses of the indices so far
@@ -219,10 +217,10 @@ table_after change turn before after transform law p = record {
       (subst (λ (q : Cycle). HasResponses transform (change (responses_of before)) q.classes q.step) (sym p.cycle) law);
 }
 
-pub sums_room : (width stages stage gain : ℕ) → 0 < width → stage < stages → width ^ stages * gain ≤ 2 ^ 126 → magnitude (ones width) * (width ^ stage * gain) ≤ 2 ^ 126
+pub sums_room : (width stages stage gain : ℕ) → 0 < width → stage < stages → width ^ stages * gain ≤ 2 ^ 126 → width * (width ^ stage * gain) ≤ 2 ^ 126
 sums_room width stages stage gain some below room =
-    let one : magnitude (ones width) * (width ^ stage * gain) ≡ width ^ suc stage * gain =
-    ap (λ (m : ℕ). m * (width ^ stage * gain)) (magnitude-ones width) ∙ sym (mul_assoc width (width ^ stage) gain) ∙ ap (λ (m : ℕ). m * gain) (mul_comm width (width ^ stage) ∙ sym (pow-suc width stage)) in
+    let one : width * (width ^ stage * gain) ≡ width ^ suc stage * gain =
+    sym (mul_assoc width (width ^ stage) gain) ∙ ap (λ (m : ℕ). m * gain) (mul_comm width (width ^ stage) ∙ sym (pow-suc width stage)) in
     omega (arith, one, mul-le-mul_right gain (pow-le-pow_right some below), room)
 
 -- ---- Euclid

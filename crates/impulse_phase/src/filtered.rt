@@ -62,14 +62,15 @@ fn add_tap(
     )
 }
 
-// An index as a class, some rounds back.
+/// An index as a class, some rounds back.
 #[derive(Drop)]
-struct Place {
-    class: u64,
-    rounds: u64,
+pub(crate) struct Place {
+    pub(crate) class: u64,
+    pub(crate) rounds: u64,
 }
 
-fn place_before(classes: u64, index: u64, back: u64) -> Place
+/// The index so many before another one.
+pub(crate) fn place_before(classes: u64, index: u64, back: u64) -> Place
     requires index { index < classes }
     requires few { classes ≤ 2 ^ 32 }
     requires near { back ≤ 2 ^ 14 }

@@ -5,6 +5,7 @@ mod composed;
 mod filtered;
 mod passage;
 mod sum;
+mod summed;
 mod table;
 
 ghost use Rattle.std.specs.Prelude.{ℕ, List, ◌*◌, ◌^◌};

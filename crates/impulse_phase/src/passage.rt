@@ -9,6 +9,7 @@ ghost use Rattle.impulse_phase.specs.Response.{through_up, through_down, through
 ghost use Rattle.impulse_phase.specs.Reading.{as_response, rows_of, responses_of, cycle_of, IsTable, IsAhead, Passes, HasRoomFor};
 
 use crate::filtered::filter_row;
+use crate::summed::through_sum;
 use crate::table::{Response, Row};
 use mr_values::{Element, Memory};
 use std::alloc::Global;
@@ -146,10 +147,9 @@ impl Response {
         requires room { (gain : ℕ) × HasGain (responses_of self) gain × (width ^ stages * gain ≤ 2 ^ 126) }
         ensures { IfOk result (λ response. Passes (through_filters stages (ones width)) (λ cycle. cycle) self response) }
     {
-        let taps = ones(alloc, width)?;
         let mut response = self;
         for stage in 0..stages {
-            response = response.through_filter(alloc, &taps)?;
+            response = through_sum(&response, alloc, width)?;
         }
         Ok(response)
     }
@@ -160,17 +160,6 @@ fn size(number: i64) -> u64
     ensures { result ≡ size number }
 {
     if number < 0 { 0 } else { number as u64 }
-}
-
-// The taps of a sum.
-fn ones(alloc: Global, count: u64) -> Result<Vec<i64>, Memory>
-    ensures { IfOk result (λ taps. taps.items ≡ ones count) }
-{
-    let mut taps = Vec::new(alloc);
-    for index in 0..count {
-        taps.push(1)?;
-    }
-    Ok(taps)
 }
 
 /// The greatest common divisor, by Euclid.
