@@ -14,7 +14,7 @@ use Rattle.stage_law.specs.Kinds.{carries_uncut}
 use Rattle.mr_values.specs.declared.plan.Mode.{Mode}
 use Rattle.mr_values.specs.Sequence.{Sequence, up, down, filter}
 use Rattle.mr_values.specs.Value.{chain}
-use Rattle.mr_values.specs.Timing.{Group, Fir, DownCic, UpCic, Rounding, Stream, up_factor, down_factor, group_delay, form_delay, form_of, taps_of}
+use Rattle.mr_values.specs.Timing.{Group, Fir, DownCic, UpCic, Rounding, Clipping, Stream, up_factor, down_factor, group_delay, form_delay, form_of, taps_of}
 use Rattle.plan_check.specs.Amounts.{magnitude}
 use Rattle.plan_laws.proofs.Reach.{apply_group, optional, filter_by}
 use Rattle.rounding_stage.specs.Rounding.{rounding_facts}
@@ -84,6 +84,7 @@ facts-is (Fir u f d) facts is h = subst (IsFactsOf (Fir u f d)) (sym h) (fir-is 
 facts-is (DownCic factor stages delay) facts is h = subst (IsFactsOf (DownCic factor stages delay)) (sym h) (down-is factor stages delay)
 facts-is (UpCic factor stages delay) facts is h = subst (IsFactsOf (UpCic factor stages delay)) (sym h) (up-is factor stages delay)
 facts-is (Rounding shift mode) facts is h = subst (IsFactsOf (Rounding shift mode)) (sym h) (rounding-is shift mode)
+facts-is (Clipping bits) facts is h = absurd is
 
 -- a group that doesn't round carries its elements in the uncut run too
 pub plain-carries : (g : Group) (facts : StageFacts) → IsPlainGroup g → HasFacts g facts → carries_uncut facts.kind ≡ true
@@ -91,3 +92,4 @@ plain-carries (Fir u f d) facts plain h = ap (λ (e : StageFacts). carries_uncut
 plain-carries (DownCic factor stages delay) facts plain h = ap (λ (e : StageFacts). carries_uncut e.kind) h
 plain-carries (UpCic factor stages delay) facts plain h = ap (λ (e : StageFacts). carries_uncut e.kind) h
 plain-carries (Rounding shift mode) facts plain h = absurd plain
+plain-carries (Clipping bits) facts plain h = absurd plain

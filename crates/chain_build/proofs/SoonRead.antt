@@ -7,7 +7,7 @@ use Rattle.mr_values.specs.declared.plan.Element.{Element}
 use Rattle.mr_values.specs.declared.plan.Form.{Form}
 use Rattle.mr_values.specs.declared.plan.Form.TheVariants.{Parallel, Symmetric, HalfBand, Folded, Distributed}
 use Rattle.mr_values.specs.declared.plan.Plan.{Plan}
-use Rattle.mr_values.specs.Timing.{Group, Fir, DownCic, UpCic, Rounding, ceil_div, groups, up_factor, taps_of, form_of}
+use Rattle.mr_values.specs.Timing.{Group, Fir, DownCic, UpCic, Rounding, Clipping, ceil_div, groups, up_factor, taps_of, form_of}
 use Rattle.mr_values.specs.Value.{size}
 use Rattle.net_graph.specs.declared.name.NameKind.{NameKind}
 use Rattle.net_graph.specs.declared.name.NameKind.TheVariants.{Window, Register}
@@ -95,6 +95,7 @@ group-every (Fir u f d) period i r there = by (form_of f) there
 group-every (DownCic a b c) period i r there = absurd (cc)
 group-every (UpCic a b c) period i r there = absurd (cc)
 group-every (Rounding k m) period i r there = absurd (cc)
+group-every (Clipping bits) period i r there = absurd (cc)
 
 -- ---- the sums of a linear group have few weights
 
@@ -103,6 +104,7 @@ linear-plain (Fir u f d) is = tt
 linear-plain (DownCic a b c) is = tt
 linear-plain (UpCic a b c) is = tt
 linear-plain (Rounding k m) is = absurd (cc)
+linear-plain (Clipping bits) is = absurd (cc)
 
 -- as many as the values that the group remembers, and two more
 linear-short : (g : Group) (facts : StageFacts) → HasFacts g facts → is_linear (kind_of g) ≡ true → 0 < up_factor g → facts.longest ≤ memory_of g / up_factor g + 2
@@ -113,6 +115,7 @@ linear-short (Fir u f d) facts has is some =
 linear-short (DownCic a b c) facts has is some = absurd (cc)
 linear-short (UpCic a b c) facts has is some = absurd (cc)
 linear-short (Rounding k m) facts has is some = absurd (cc)
+linear-short (Clipping bits) facts has is some = absurd (cc)
 
 both_some : (a b : ℕ) → 0 < a → 0 < b → 0 < a * b
 both_some zero b h k = absurd (omega arith)
