@@ -5,11 +5,12 @@ use Rattle.std.proofs.lemmas.Int.{ints}
 use Rattle.std.proofs.lemmas.Nat.{pow_pos}
 use Rattle.std.proofs.lemmas.Bool.{cases_lt}
 use Rattle.mr_values.specs.declared.plan.Element.{Element}
-use Rattle.mr_values.specs.declared.plan.Element.TheVariants.{Up, Down, Filter, CicDown, CicUp, Round}
+use Rattle.mr_values.specs.declared.plan.Element.TheVariants.{Up, Down, Filter, CicDown, CicUp, Round, Clip}
+use Rattle.mr_values.specs.declared.plan.Mode.TheVariants.{HalfUp, HalfEven, Floor}
 use Rattle.mr_values.specs.declared.plan.Form.TheVariants.{Parallel, Symmetric, HalfBand, Folded, Distributed}
-use Rattle.mr_values.specs.Timing.{Group, Fir, DownCic, UpCic, Rounding, join_up, join_filter, groups, input, last_stream, latency}
+use Rattle.mr_values.specs.Timing.{Group, Fir, DownCic, UpCic, Rounding, Clipping, join_up, join_filter, groups, input, last_stream, latency}
 use Rattle.mr_values.specs.Sequence.{samples}
-use Rattle.mr_values.specs.Value.{chain, size}
+use Rattle.mr_values.specs.Value.{chain, size, has_clip}
 use Rattle.mr_values.specs.Width.{FitsWidth}
 use Rattle.net_graph.specs.declared.cell.Cell.{Cell}
 use Rattle.net_graph.specs.declared.cell.Node.{Node}
@@ -55,6 +56,7 @@ built-filter taps (Fir (Some u) (Some f) down ∷ gs) h = (refl, h)
 built-filter taps (DownCic factor stages delay ∷ gs) h = (refl, h)
 built-filter taps (UpCic factor stages delay ∷ gs) h = (refl, h)
 built-filter taps (Rounding shift mode ∷ gs) h = (refl, h)
+built-filter taps (Clipping bits ∷ gs) h = (refl, h)
 
 built-up : (factor : ℕ) (gs : List Group) → AreBuiltGroups gs → AreBuiltGroups (join_up factor gs)
 built-up factor [] h = (refl, tt)
@@ -63,6 +65,7 @@ built-up factor (Fir (Some u) f down ∷ gs) h = (refl, h)
 built-up factor (DownCic other stages delay ∷ gs) h = (refl, h)
 built-up factor (UpCic other stages delay ∷ gs) h = (refl, h)
 built-up factor (Rounding shift mode ∷ gs) h = (refl, h)
+built-up factor (Clipping bits ∷ gs) h = (refl, h)
 
 pub built-groups : (es : List Element) → are_built es ≡ true → AreBuiltGroups (groups es)
 built-groups [] h = tt
@@ -75,7 +78,26 @@ built-groups (Filter taps (Folded slots) ∷ es) h = absurd (cc)
 built-groups (Filter taps (Distributed group) ∷ es) h = absurd (cc)
 built-groups (CicDown factor stages delay ∷ es) h = (tt, built-groups es h)
 built-groups (CicUp factor stages delay ∷ es) h = (tt, built-groups es h)
-built-groups (Round shift mode ∷ es) h = (tt, built-groups es h)
+built-groups (Round shift HalfUp ∷ es) h = (refl, built-groups es h)
+built-groups (Round shift HalfEven ∷ es) h = absurd (cc)
+built-groups (Round shift Floor ∷ es) h = (refl, built-groups es h)
+built-groups (Clip bits ∷ es) h = absurd (cc)
+
+pub built-unclipped : (es : List Element) → are_built es ≡ true → has_clip es ≡ false
+built-unclipped [] h = refl
+built-unclipped (Up factor ∷ es) h = built-unclipped es h
+built-unclipped (Down factor ∷ es) h = built-unclipped es h
+built-unclipped (Filter taps Parallel ∷ es) h = built-unclipped es h
+built-unclipped (Filter taps Symmetric ∷ es) h = absurd (cc)
+built-unclipped (Filter taps HalfBand ∷ es) h = absurd (cc)
+built-unclipped (Filter taps (Folded slots) ∷ es) h = absurd (cc)
+built-unclipped (Filter taps (Distributed group) ∷ es) h = absurd (cc)
+built-unclipped (CicDown factor stages delay ∷ es) h = built-unclipped es h
+built-unclipped (CicUp factor stages delay ∷ es) h = built-unclipped es h
+built-unclipped (Round shift HalfUp ∷ es) h = built-unclipped es h
+built-unclipped (Round shift HalfEven ∷ es) h = absurd (cc)
+built-unclipped (Round shift Floor ∷ es) h = built-unclipped es h
+built-unclipped (Clip bits ∷ es) h = absurd (cc)
 
 -- ---- a net of one input
 

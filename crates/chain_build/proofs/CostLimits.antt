@@ -5,10 +5,10 @@ use Rattle.std.specs.Option.{option_map}
 use Rattle.std.proofs.Math.Nat.{mul-le-mul_right, mul_comm}
 use Rattle.std.proofs.lemmas.Nat.{mod_below, le-div}
 use Rattle.mr_values.specs.declared.plan.Element.{Element}
-use Rattle.mr_values.specs.declared.plan.Element.TheVariants.{Up, Down, Filter, CicDown, CicUp, Round}
+use Rattle.mr_values.specs.declared.plan.Element.TheVariants.{Up, Down, Filter, CicDown, CicUp, Round, Clip}
 use Rattle.mr_values.specs.declared.plan.Form.{Form}
 use Rattle.mr_values.specs.declared.plan.Plan.{Plan}
-use Rattle.mr_values.specs.Timing.{Group, Fir, DownCic, UpCic, Rounding, ceil_div, groups, join_up, join_filter, up_factor, down_factor, period_after}
+use Rattle.mr_values.specs.Timing.{Group, Fir, DownCic, UpCic, Rounding, Clipping, ceil_div, groups, join_up, join_filter, up_factor, down_factor, period_after}
 use Rattle.mr_values.specs.Value.{size, IsWithinLimits}
 use Rattle.plan_check.specs.declared.fault.CostWhich.{CostWhich}
 use Rattle.plan_check.specs.declared.fault.CostWhich.TheVariants.{Response as ResponseCost, Cycle as CycleCost}
@@ -61,6 +61,7 @@ plain_spread (Fir up filter down) o plain = refl
 plain_spread (DownCic factor stages delay) o plain = refl
 plain_spread (UpCic factor stages delay) o plain = refl
 plain_spread (Rounding shift mode) o plain = absurd plain
+plain_spread (Clipping bits) o plain = absurd plain
 
 -- the samples of a round take as long as its indices
 even-on : (c k a m n u p q s t : ℕ) → c * m ≡ k * a → a ≡ n * u → q * u ≡ p * m → n * p ≡ s * t → c * q * u ≡ k * s * t * u
@@ -166,6 +167,7 @@ raising-up factor (Fir (Some u) f d ∷ gs) some h = (some, h)
 raising-up factor (DownCic r n l ∷ gs) some h = (some, h)
 raising-up factor (UpCic r n l ∷ gs) some h = (some, h)
 raising-up factor (Rounding s l ∷ gs) some h = (some, h)
+raising-up factor (Clipping bits ∷ gs) some h = (some, h)
 
 raising-filter : (taps : List ℤ) (form : Form) (gs : List Group) → AreRaising gs → AreRaising (join_filter taps form gs)
 raising-filter taps form [] h = (omega arith, tt)
@@ -176,6 +178,7 @@ raising-filter taps form (Fir (Some u) (Some f) d ∷ gs) h = (omega arith, h)
 raising-filter taps form (DownCic r n l ∷ gs) h = (omega arith, h)
 raising-filter taps form (UpCic r n l ∷ gs) h = (omega arith, h)
 raising-filter taps form (Rounding s l ∷ gs) h = (omega arith, h)
+raising-filter taps form (Clipping bits ∷ gs) h = (omega arith, h)
 
 are-raising : (es : List Element) → All IsWithinLimits es → AreRaising (groups es)
 are-raising [] h = tt
@@ -185,6 +188,7 @@ are-raising (Filter taps form ∷ es) h = raising-filter taps form (groups es) (
 are-raising (CicDown factor stages delay ∷ es) h = (omega arith, are-raising es (tail_limits (CicDown factor stages delay) es h))
 are-raising (CicUp factor stages delay ∷ es) h = (size_low 4096 factor (h 0 (CicUp factor stages delay) (omega arith)).0, are-raising es (tail_limits (CicUp factor stages delay) es h))
 are-raising (Round shift mode ∷ es) h = (omega arith, are-raising es (tail_limits (Round shift mode) es h))
+are-raising (Clip bits ∷ es) h = (omega arith, are-raising es (tail_limits (Clip bits) es h))
 
 -- ---- from group to group
 
@@ -224,6 +228,7 @@ left_after (Fir u f d ∷ front) left m some none h = left_after front left (mea
 left_after (DownCic r n l ∷ front) left m some none h = left_after front left (measure_after (DownCic r n l) m) some none (left_next some tt h)
 left_after (UpCic r n l ∷ front) left m some none h = left_after front left (measure_after (UpCic r n l) m) some none (left_next some tt h)
 left_after (Rounding s l ∷ front) left m some none h = absurd (cc)
+left_after (Clipping bits ∷ front) left m some none h = absurd (cc)
 
 -- the elements of the groups before those that are left, of an accepted plan
 pub left-of : (plan : Plan) (es : List Element) (front left : List Group) → IsAccepted plan → groups plan.elements ≡ front ++ left → has_rounding front ≡ false → AreLinear es → groups es ≡ front

@@ -1,7 +1,7 @@
 -- What the groups that were added so far cost, and which nodes the linear ones have.
 use Rattle.std.proofs.Common.{◌≡◌, ℕ, suc, true, ◌+◌, ◌<◌, ◌≤◌, ◌⊎◌, List, [], ◌∷◌, ◌++◌, length, Some, slice_get, refl, sym, ◌∙◌, ap, subst, arith, inl, inr, append_assoc, append-nil}
 use Rattle.std.proofs.lemmas.Bool.{cases_lt}
-use Rattle.mr_values.specs.Timing.{Group, Fir, DownCic, UpCic, Rounding}
+use Rattle.mr_values.specs.Timing.{Group, Fir, DownCic, UpCic, Rounding, Clipping}
 use Rattle.net_graph.specs.declared.cell.Cell.{Cell}
 use Rattle.net_graph.specs.declared.cell.Stream.{Stream}
 use Rattle.net_graph.specs.declared.name.Name.{Name}
@@ -34,6 +34,7 @@ tables_of (Fir up filter down) facts has = ap (λ (f : StageFacts). f.tables) ha
 tables_of (DownCic factor stages delay) facts has = ap (λ (f : StageFacts). f.tables) has
 tables_of (UpCic factor stages delay) facts has = ap (λ (f : StageFacts). f.tables) has
 tables_of (Rounding shift mode) facts has = ap (λ (f : StageFacts). f.tables) has
+tables_of (Clipping bits) facts has = absurd has
 
 after_none : (n : ℕ) → 0 + n ≡ n
 after_none n = omega arith

@@ -3,10 +3,10 @@ use Rattle.std.proofs.Common.{◌≡◌, ℕ, zero, suc, ◌≤◌, Bool, false,
 use Rattle.std.specs.Prelude.{All}
 use Rattle.std.proofs.lemmas.Int.{ints}
 use Rattle.mr_values.specs.declared.plan.Element.{Element}
-use Rattle.mr_values.specs.declared.plan.Element.TheVariants.{Up, Down, Filter, CicDown, CicUp, Round}
+use Rattle.mr_values.specs.declared.plan.Element.TheVariants.{Up, Down, Filter, CicDown, CicUp, Round, Clip}
 use Rattle.mr_values.specs.declared.plan.Form.{Form}
 use Rattle.mr_values.specs.declared.plan.Plan.{Plan}
-use Rattle.mr_values.specs.Timing.{Group, Fir, DownCic, UpCic, Rounding, groups, join_up, join_filter}
+use Rattle.mr_values.specs.Timing.{Group, Fir, DownCic, UpCic, Rounding, Clipping, groups, join_up, join_filter}
 use Rattle.mr_values.specs.Value.{IsWithinLimits, size, chain}
 use Rattle.plan_check.specs.Accepted.{IsAccepted}
 use Rattle.plan_check.proofs.GroupSplit.{size_low, tail_limits}
@@ -30,6 +30,7 @@ rounding-up l (Fir (Some u) f d ∷ gs) = refl
 rounding-up l (DownCic r n m ∷ gs) = refl
 rounding-up l (UpCic r n m ∷ gs) = refl
 rounding-up l (Rounding s m ∷ gs) = refl
+rounding-up l (Clipping bits ∷ gs) = refl
 
 rounding-filter : (taps : List ℤ) (form : Form) (gs : List Group) → has_rounding (join_filter taps form gs) ≡ has_rounding gs
 rounding-filter taps form [] = refl
@@ -40,6 +41,7 @@ rounding-filter taps form (Fir (Some u) (Some f) d ∷ gs) = refl
 rounding-filter taps form (DownCic r n m ∷ gs) = refl
 rounding-filter taps form (UpCic r n m ∷ gs) = refl
 rounding-filter taps form (Rounding s m ∷ gs) = refl
+rounding-filter taps form (Clipping bits ∷ gs) = refl
 
 pub unrounded-linear : (es : List Element) → All IsWithinLimits es → has_rounding (groups es) ≡ false → AreLinear es
 unrounded-linear [] limits none = tt
@@ -52,6 +54,7 @@ unrounded-linear (CicDown factor stages delay ∷ es) limits none =
 unrounded-linear (CicUp factor stages delay ∷ es) limits none =
     (size_low 4096 factor (limits 0 (CicUp factor stages delay) (omega arith)).0, unrounded-linear es (tail_limits (CicUp factor stages delay) es limits) none)
 unrounded-linear (Round shift mode ∷ es) limits none = absurd (cc)
+unrounded-linear (Clip bits ∷ es) limits none = absurd (cc)
 
 -- ---- the first of them
 

@@ -14,7 +14,7 @@ use Rattle.stage_law.specs.Kinds.{carries_uncut}
 use Rattle.mr_values.specs.declared.plan.Mode.{Mode}
 use Rattle.mr_values.specs.Sequence.{Sequence, up, down, filter}
 use Rattle.mr_values.specs.Value.{chain}
-use Rattle.mr_values.specs.Timing.{Group, Fir, DownCic, UpCic, Rounding, Stream, up_factor, down_factor, group_delay, form_delay, form_of, taps_of}
+use Rattle.mr_values.specs.Timing.{Group, Fir, DownCic, UpCic, Rounding, Clipping, Stream, up_factor, down_factor, group_delay, form_delay, form_of, taps_of}
 use Rattle.plan_check.specs.Amounts.{magnitude}
 use Rattle.plan_check.specs.Groups.{IsGroup}
 use Rattle.plan_laws.proofs.Reach.{apply_group, optional, filter_by}
@@ -85,6 +85,7 @@ facts-is (Fir u f d) facts is h = subst (IsFactsOf (Fir u f d)) (sym h) (fir-is 
 facts-is (DownCic factor stages delay) facts is h = subst (IsFactsOf (DownCic factor stages delay)) (sym h) (down-is factor stages delay)
 facts-is (UpCic factor stages delay) facts is h = subst (IsFactsOf (UpCic factor stages delay)) (sym h) (up-is factor stages delay)
 facts-is (Rounding shift mode) facts is h = subst (IsFactsOf (Rounding shift mode)) (sym h) (rounding-is shift mode)
+facts-is (Clipping bits) facts is h = absurd is
 
 -- a group that doesn't round carries its elements in the uncut run too
 pub plain-carries : (g : Group) (facts : StageFacts) → IsPlainGroup g → HasFacts g facts → carries_uncut facts.kind ≡ true
@@ -92,6 +93,7 @@ plain-carries (Fir u f d) facts plain h = ap (λ (e : StageFacts). carries_uncut
 plain-carries (DownCic factor stages delay) facts plain h = ap (λ (e : StageFacts). carries_uncut e.kind) h
 plain-carries (UpCic factor stages delay) facts plain h = ap (λ (e : StageFacts). carries_uncut e.kind) h
 plain-carries (Rounding shift mode) facts plain h = absurd plain
+plain-carries (Clipping bits) facts plain h = absurd plain
 
 -- a group takes a value for each that it gives, or more
 pub some-down : (g : Group) (facts : StageFacts) → IsFactsOf g facts → IsGroup g → 0 < facts.down
@@ -99,3 +101,4 @@ some-down (Fir u f d) facts own limits = let same = own.down in let low = limits
 some-down (DownCic factor stages delay) facts own limits = let same = own.down in let low = limits.factor_low in omega (arith, same, low)
 some-down (UpCic factor stages delay) facts own limits = let same = own.down in omega (arith, same)
 some-down (Rounding shift mode) facts own limits = let same = own.down in omega (arith, same)
+some-down (Clipping bits) facts own limits = let same = own.down in omega (arith, same)

@@ -2,10 +2,10 @@
 use Rattle.std.proofs.Common.{◌≡◌, ◌⊎◌, ℕ, ◌+◌, ◌<◌, ◌≤◌, List, [], ◌∷◌, ◌++◌, length, Option, Some, None, slice_get, refl, sym, ◌∙◌, ap, arith, inl, inr, append-nil, subst, ℤ, pos}
 use Rattle.std.proofs.lemmas.Bool.{cases_lt}
 use Rattle.mr_values.specs.declared.plan.Element.{Element}
-use Rattle.mr_values.specs.declared.plan.Element.TheVariants.{Up, Down, Filter, CicDown, CicUp, Round}
+use Rattle.mr_values.specs.declared.plan.Element.TheVariants.{Up, Down, Filter, CicDown, CicUp, Round, Clip}
 use Rattle.mr_values.specs.declared.plan.Form.{Form}
 use Rattle.mr_values.specs.declared.plan.Plan.{Plan}
-use Rattle.mr_values.specs.Timing.{Group, Fir, DownCic, UpCic, Rounding, join_up, join_filter, groups}
+use Rattle.mr_values.specs.Timing.{Group, Fir, DownCic, UpCic, Rounding, Clipping, join_up, join_filter, groups}
 use Rattle.mr_values.specs.Value.{size}
 use Rattle.net_graph.specs.declared.cell.Cell.{Cell}
 use Rattle.net_graph.specs.declared.name.Name.{Name}
@@ -37,6 +37,7 @@ some_up factor (Fir (Some u) f down ∷ gs) = omega arith
 some_up factor (DownCic other stages delay ∷ gs) = omega arith
 some_up factor (UpCic other stages delay ∷ gs) = omega arith
 some_up factor (Rounding shift mode ∷ gs) = omega arith
+some_up factor (Clipping bits ∷ gs) = omega arith
 
 some_filter : (taps : List ℤ) (form : Form) (gs : List Group) → 1 ≤ length (join_filter taps form gs)
 some_filter taps form [] = omega arith
@@ -47,6 +48,7 @@ some_filter taps form (Fir (Some u) (Some f) down ∷ gs) = omega arith
 some_filter taps form (DownCic factor stages delay ∷ gs) = omega arith
 some_filter taps form (UpCic factor stages delay ∷ gs) = omega arith
 some_filter taps form (Rounding shift mode ∷ gs) = omega arith
+some_filter taps form (Clipping bits ∷ gs) = omega arith
 
 some_groups : (es : List Element) → 1 ≤ length es → 1 ≤ length (groups es)
 some_groups [] some = absurd (omega (arith, some))
@@ -56,6 +58,7 @@ some_groups (Filter taps form ∷ es) some = some_filter taps form (groups es)
 some_groups (CicDown factor stages delay ∷ es) some = omega arith
 some_groups (CicUp factor stages delay ∷ es) some = omega arith
 some_groups (Round shift mode ∷ es) some = omega arith
+some_groups (Clip bits ∷ es) some = omega arith
 
 -- an accepted plan has an element, and so a group
 pub has_group : (plan : Plan) → IsAccepted plan → 1 ≤ length (groups plan.elements)

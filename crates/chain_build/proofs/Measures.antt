@@ -2,9 +2,9 @@
 use Rattle.std.proofs.Common.{◌≡◌, ◌∙◌, ℕ, zero, suc, ◌+◌, ◌-◌, ◌*◌, ◌/◌, ◌<◌, refl, sym, ap, arith, List, [], ◌∷◌, length, ℤ, None, Some}
 use Rattle.std.proofs.lemmas.Nat.{div-add-mod', mod_below, div_below}
 use Rattle.mr_values.specs.declared.plan.Element.{Element}
-use Rattle.mr_values.specs.declared.plan.Element.TheVariants.{Up, Down, Filter, CicDown, CicUp, Round}
+use Rattle.mr_values.specs.declared.plan.Element.TheVariants.{Up, Down, Filter, CicDown, CicUp, Round, Clip}
 use Rattle.mr_values.specs.declared.plan.Form.{Form}
-use Rattle.mr_values.specs.Timing.{Group, Fir, DownCic, UpCic, Rounding, ceil_div, groups, join_up, join_filter, up_factor, down_factor}
+use Rattle.mr_values.specs.Timing.{Group, Fir, DownCic, UpCic, Rounding, Clipping, ceil_div, groups, join_up, join_filter, up_factor, down_factor}
 use Rattle.mr_values.specs.Value.{size}
 use Rattle.plan_check.specs.Costs.{memory_of}
 use Rattle.impulse_phase.specs.Reach.{Extent, extent_after, extent_after_all, extent}
@@ -91,6 +91,7 @@ measure-up factor (Fir (Some u) f d ∷ gs) m some positive = ap (measure_all (F
 measure-up factor (DownCic r n l ∷ gs) m some positive = ap (measure_all (DownCic r n l ∷ gs)) (only_raises factor m some positive)
 measure-up factor (UpCic r n l ∷ gs) m some positive = ap (measure_all (UpCic r n l ∷ gs)) (only_raises factor m some positive)
 measure-up factor (Rounding s l ∷ gs) m some positive = ap (measure_all (Rounding s l ∷ gs)) (only_raises factor m some positive)
+measure-up factor (Clipping bits ∷ gs) m some positive = ap (measure_all (Clipping bits ∷ gs)) (only_raises factor m some positive)
 
 measure-filter : (taps : List ℤ) (form : Form) (gs : List Group) (m : Measure) → 0 < m.up → measure_all (join_filter taps form gs) m ≡ measure_all gs (remembering (length taps - 1) m)
 measure-filter taps form [] m some = only_filters (length taps - 1) m
@@ -104,6 +105,7 @@ measure-filter taps form (Fir (Some u) (Some f) d ∷ gs) m some = ap (measure_a
 measure-filter taps form (DownCic r n l ∷ gs) m some = ap (measure_all (DownCic r n l ∷ gs)) (only_filters (length taps - 1) m)
 measure-filter taps form (UpCic r n l ∷ gs) m some = ap (measure_all (UpCic r n l ∷ gs)) (only_filters (length taps - 1) m)
 measure-filter taps form (Rounding s l ∷ gs) m some = ap (measure_all (Rounding s l ∷ gs)) (only_filters (length taps - 1) m)
+measure-filter taps form (Clipping bits ∷ gs) m some = ap (measure_all (Clipping bits ∷ gs)) (only_filters (length taps - 1) m)
 
 -- ---- elements
 
@@ -125,6 +127,7 @@ measure-from (CicUp factor stages delay ∷ es) p x linear some =
     measure-from es (cycle_after (CicUp factor stages delay) p) (extent_after (CicUp factor stages delay) x) linear.1 (product-positive x.up (size factor) some linear.0)
     ∙ ap (measure_all (groups es)) (sym (thinned-once (remembering (size stages * (size factor * size delay - 1)) (raised (size factor) (measure_of p x)))))
 measure-from (Round shift mode ∷ es) p x linear some = absurd linear.0
+measure-from (Clip bits ∷ es) p x linear some = absurd linear.0
 
 pub measure-is : (es : List Element) → AreLinear es → measure_of (full_cycle es) (extent es) ≡ measure_all (groups es) at_first
 measure-is es linear = measure-from es (record { classes = 1; step = 1 }) (record { up = 1; down = 1; slack = 1; reach = 1 }) linear (omega arith)

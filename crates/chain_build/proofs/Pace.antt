@@ -4,9 +4,9 @@ use Rattle.std.proofs.Math.Nat.{mul-le-mul_right}
 use Rattle.std.proofs.lemmas.Bool.{cases_lt}
 use Rattle.std.proofs.lemmas.Int.{ints}
 use Rattle.mr_values.specs.declared.plan.Element.{Element}
-use Rattle.mr_values.specs.declared.plan.Element.TheVariants.{Up, Down, Filter, CicDown, CicUp, Round}
+use Rattle.mr_values.specs.declared.plan.Element.TheVariants.{Up, Down, Filter, CicDown, CicUp, Round, Clip}
 use Rattle.mr_values.specs.declared.plan.Form.{Form}
-use Rattle.mr_values.specs.Timing.{Group, Fir, DownCic, UpCic, Rounding, groups, join_up, join_filter, up_factor, down_factor}
+use Rattle.mr_values.specs.Timing.{Group, Fir, DownCic, UpCic, Rounding, Clipping, groups, join_up, join_filter, up_factor, down_factor}
 use Rattle.mr_values.specs.Value.{size}
 use Rattle.impulse_phase.specs.Reach.{Extent, extent_after, extent_after_all, extent}
 use Rattle.impulse_phase.specs.Response.{AreLinear, responses}
@@ -43,6 +43,7 @@ pace-up l (Fir (Some u) f d ∷ gs) p = ap (pace_all (Fir (Some u) f d ∷ gs)) 
 pace-up l (DownCic r n m ∷ gs) p = ap (pace_all (DownCic r n m ∷ gs)) (pace_is (p.up * l) (p.down * 1) (p.up * l) p.down refl (omega arith))
 pace-up l (UpCic r n m ∷ gs) p = ap (pace_all (UpCic r n m ∷ gs)) (pace_is (p.up * l) (p.down * 1) (p.up * l) p.down refl (omega arith))
 pace-up l (Rounding s m ∷ gs) p = ap (pace_all (Rounding s m ∷ gs)) (pace_is (p.up * l) (p.down * 1) (p.up * l) p.down refl (omega arith))
+pace-up l (Clipping bits ∷ gs) p = ap (pace_all (Clipping bits ∷ gs)) (pace_is (p.up * l) (p.down * 1) (p.up * l) p.down refl (omega arith))
 
 once : (gs : List Group) (p : Pace) → pace_all gs (record { up = p.up * 1; down = p.down * 1 }) ≡ pace_all gs p
 once gs p = ap (pace_all gs) (pace_is (p.up * 1) (p.down * 1) p.up p.down (omega arith) (omega arith))
@@ -56,6 +57,7 @@ pace-filter taps form (Fir (Some u) (Some f) d ∷ gs) p = once (Fir (Some u) (S
 pace-filter taps form (DownCic r n m ∷ gs) p = once (DownCic r n m ∷ gs) p
 pace-filter taps form (UpCic r n m ∷ gs) p = once (UpCic r n m ∷ gs) p
 pace-filter taps form (Rounding s m ∷ gs) p = once (Rounding s m ∷ gs) p
+pace-filter taps form (Clipping bits ∷ gs) p = once (Clipping bits ∷ gs) p
 
 abbrev pace_of : Extent → Pace
 pace_of x = record { up = x.up; down = x.down }
@@ -71,6 +73,7 @@ pace-from (CicDown factor stages delay ∷ es) x =
 pace-from (CicUp factor stages delay ∷ es) x =
     pace-from es (extent_after (CicUp factor stages delay) x) ∙ ap (pace_all (groups es)) (pace_is (x.up * size factor) x.down (x.up * size factor) (x.down * 1) refl (omega arith))
 pace-from (Round shift mode ∷ es) x = pace-from es x ∙ sym (once (groups es) (pace_of x))
+pace-from (Clip bits ∷ es) x = pace-from es x ∙ sym (once (groups es) (pace_of x))
 
 pub extent-pace : (es : List Element) → pace_of (extent es) ≡ pace_all (groups es) at_once
 extent-pace es = pace-from es (record { up = 1; down = 1; slack = 1; reach = 1 })

@@ -4,7 +4,7 @@ use Rattle.std.specs.Prelude.{unsigned_abs}
 use Rattle.std.proofs.Math.Nat.{mul-le-mul_left}
 use Rattle.std.proofs.lemmas.Bool.{cases_lt}
 use Rattle.mr_values.specs.declared.plan.Element.{Element}
-use Rattle.mr_values.specs.Timing.{Group, Fir, DownCic, UpCic, Rounding, taps_of}
+use Rattle.mr_values.specs.Timing.{Group, Fir, DownCic, UpCic, Rounding, Clipping, taps_of}
 use Rattle.mr_values.specs.Value.{chain}
 use Rattle.net_graph.specs.declared.cell.Stream.{Stream}
 use Rattle.net_graph.specs.Cells.{NetView}
@@ -42,6 +42,7 @@ own_gain (Fir u f d) facts has linear = ap (λ (e : StageFacts). e.gain) has ∙
 own_gain (DownCic r n m) facts has linear = absurd (cc)
 own_gain (UpCic r n m) facts has linear = absurd (cc)
 own_gain (Rounding s m) facts has linear = absurd (cc)
+own_gain (Clipping bits) facts has linear = absurd (cc)
 
 times_room : (most gains own form : ℕ) → most ≤ 2 ^ 125 → gains * most ≤ 2 ^ 125 → own ≡ gains → form ≤ max 1 (2 * own) → most * form ≤ 2 ^ 126
 times_room most gains own form one more same small =

@@ -2,7 +2,7 @@
 use Rattle.std.proofs.Common.{◌≡◌, ℕ, ◌+◌, ◌-◌, ◌*◌, Bool, true, false, if◌then◌else◌, List, [], ◌∷◌, ◌++◌, append_assoc, map, take, nat_eq, slice_get, refl, sym, ◌∙◌, ap, subst, arith}
 use Rattle.mr_values.specs.declared.plan.Element.{Element}
 use Rattle.mr_values.specs.declared.plan.Plan.{Plan}
-use Rattle.mr_values.specs.Timing.{Group, Fir, DownCic, UpCic, Rounding, Stream as Timed, groups, input, after, after_all, last_stream}
+use Rattle.mr_values.specs.Timing.{Group, Fir, DownCic, UpCic, Rounding, Clipping, Stream as Timed, groups, input, after, after_all, last_stream}
 use Rattle.mr_values.specs.Value.{size}
 use Rattle.net_graph.specs.declared.cell.Cell.{Cell}
 use Rattle.net_graph.specs.declared.cell.Stream.{Stream}
@@ -71,6 +71,7 @@ module _ {width ticks : ℕ} {whole : List Element} {old new : List Cell} {front
       own_none (DownCic a b c) is = absurd (cc)
       own_none (UpCic a b c) is = absurd (cc)
       own_none (Rounding k m) is = refl
+      own_none (Clipping bits) is = refl
 
       by : (b r : Bool) → has_rounding front ≡ b → rounds g ≡ r → so.listed ++ coming b width whole number (sizes front) s (g ∷ others) ≡ linear width ticks whole
           → (so.listed ++ added_registers b width whole number (sizes front) s g) ++ coming (if b then true else r) width whole (number + 1) (sizes front + size_of g) (after g s) others ≡ linear width ticks whole
@@ -165,6 +166,8 @@ module _ {plan : Plan} {old net mid new : NetView} {from last : Stream} {rest : 
   own_are false is (UpCic a b c) same =
       unkept (keeps_is is ∙ ap (λ (k : Group). is_linear (kind_of k)) same) (ap (λ (b : Bool). added_registers b W plan.elements number (sizes front) so.stream g) is ∙ ap (own_registers W plan.elements number (sizes front) so.stream) same)
   own_are false is (Rounding k m) same =
+      unkept (keeps_is is ∙ ap (λ (k : Group). is_linear (kind_of k)) same) (ap (λ (b : Bool). added_registers b W plan.elements number (sizes front) so.stream g) is ∙ ap (own_registers W plan.elements number (sizes front) so.stream) same)
+  own_are false is (Clipping b) same =
       unkept (keeps_is is ∙ ap (λ (k : Group). is_linear (kind_of k)) same) (ap (λ (b : Bool). added_registers b W plan.elements number (sizes front) so.stream g) is ∙ ap (own_registers W plan.elements number (sizes front) so.stream) same)
 
   peak_step : IsPeakStep W (size plan.ticks) plan.elements net.cells new.cells front g so.stream number before after_it

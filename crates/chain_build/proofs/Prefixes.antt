@@ -1,11 +1,11 @@
 -- The first groups of a plan are the groups of its first elements.
 use Rattle.std.proofs.Common.{◌≡◌, ℕ, suc, ◌+◌, ◌≤◌, List, [], ◌∷◌, ◌++◌, length, take, refl, sym, ◌∙◌, ap, arith, subst, None, Some, ℤ}
 use Rattle.mr_values.specs.declared.plan.Element.{Element}
-use Rattle.mr_values.specs.declared.plan.Element.TheVariants.{Up, Down, Filter, CicDown, CicUp, Round}
+use Rattle.mr_values.specs.declared.plan.Element.TheVariants.{Up, Down, Filter, CicDown, CicUp, Round, Clip}
 use Rattle.mr_values.specs.declared.plan.Form.{Form}
 use Rattle.mr_values.specs.Sequence.{Sequence}
 use Rattle.mr_values.specs.Value.{size, chain}
-use Rattle.mr_values.specs.Timing.{Group, Fir, DownCic, UpCic, Rounding, Stream, after, after_all, join_up, join_filter, groups}
+use Rattle.mr_values.specs.Timing.{Group, Fir, DownCic, UpCic, Rounding, Clipping, Stream, after, after_all, join_up, join_filter, groups}
 use Rattle.plan_check.specs.Groups.{size_of}
 use Rattle.plan_laws.proofs.Reach.{apply_group, apply_groups, chain-groups}
 
@@ -93,6 +93,7 @@ prefixed-up factor es ih (g ∷ gs) left is = by (groups es) refl is
     by (DownCic r n m ∷ hs) e same = apart (DownCic r n m ∷ hs) e (stays-from own (join_up (size factor)) (DownCic r n m) hs refl (λ k. refl)) same
     by (UpCic r n m ∷ hs) e same = apart (UpCic r n m ∷ hs) e (stays-from own (join_up (size factor)) (UpCic r n m) hs refl (λ k. refl)) same
     by (Rounding s m ∷ hs) e same = apart (Rounding s m ∷ hs) e (stays-from own (join_up (size factor)) (Rounding s m) hs refl (λ k. refl)) same
+    by (Clipping bits ∷ hs) e same = apart (Clipping bits ∷ hs) e (stays-from own (join_up (size factor)) (Clipping bits) hs refl (λ k. refl)) same
 
 prefixed-filter : (taps : List ℤ) (form : Form) (es : List Element) → IsPrefixed es → (first left : List Group) → groups (Filter taps form ∷ es) ≡ first ++ left → groups (take (sizes first) (Filter taps form ∷ es)) ≡ first
 prefixed-filter taps form es ih [] left is = refl
@@ -116,6 +117,7 @@ prefixed-filter taps form es ih (g ∷ gs) left is = by (groups es) refl is
     by (DownCic r n m ∷ hs) e same = apart (DownCic r n m ∷ hs) e (stays-from own (join_filter taps form) (DownCic r n m) hs refl (λ k. refl)) same
     by (UpCic r n m ∷ hs) e same = apart (UpCic r n m ∷ hs) e (stays-from own (join_filter taps form) (UpCic r n m) hs refl (λ k. refl)) same
     by (Rounding s m ∷ hs) e same = apart (Rounding s m ∷ hs) e (stays-from own (join_filter taps form) (Rounding s m) hs refl (λ k. refl)) same
+    by (Clipping bits ∷ hs) e same = apart (Clipping bits ∷ hs) e (stays-from own (join_filter taps form) (Clipping bits) hs refl (λ k. refl)) same
 
 prefixed-alone : (e : Element) (own : Group) (es : List Element) → IsPrefixed es → ((rest : List Element) → groups (e ∷ rest) ≡ own ∷ groups rest) → size_of own ≡ 1 → (first left : List Group) → groups (e ∷ es) ≡ first ++ left → groups (take (sizes first) (e ∷ es)) ≡ first
 prefixed-alone e own es ih puts one [] left is = refl
@@ -131,6 +133,7 @@ prefixed (Down factor ∷ es) first left is = prefixed-alone (Down factor) (Fir 
 prefixed (CicDown factor stages delay ∷ es) first left is = prefixed-alone (CicDown factor stages delay) (DownCic (size factor) (size stages) (size delay)) es (prefixed es) (λ rest. refl) refl first left is
 prefixed (CicUp factor stages delay ∷ es) first left is = prefixed-alone (CicUp factor stages delay) (UpCic (size factor) (size stages) (size delay)) es (prefixed es) (λ rest. refl) refl first left is
 prefixed (Round shift mode ∷ es) first left is = prefixed-alone (Round shift mode) (Rounding (size shift) mode) es (prefixed es) (λ rest. refl) refl first left is
+prefixed (Clip bits ∷ es) first left is = prefixed-alone (Clip bits) (Clipping (size bits)) es (prefixed es) (λ rest. refl) refl first left is
 
 -- what the first groups do is what the first elements do
 pub chain-first : (es : List Element) (first left : List Group) (v : Sequence) → groups es ≡ first ++ left → chain (take (sizes first) es) v ≡ apply_groups first v
@@ -145,6 +148,7 @@ sizes-up l (Fir (Some u) f d ∷ gs) = omega arith
 sizes-up l (DownCic r n m ∷ gs) = omega arith
 sizes-up l (UpCic r n m ∷ gs) = omega arith
 sizes-up l (Rounding s m ∷ gs) = omega arith
+sizes-up l (Clipping bits ∷ gs) = omega arith
 
 sizes-filter : (taps : List ℤ) (form : Form) (gs : List Group) → sizes (join_filter taps form gs) ≡ suc (sizes gs)
 sizes-filter taps form [] = omega arith
@@ -155,6 +159,7 @@ sizes-filter taps form (Fir (Some u) (Some f) d ∷ gs) = omega arith
 sizes-filter taps form (DownCic r n m ∷ gs) = omega arith
 sizes-filter taps form (UpCic r n m ∷ gs) = omega arith
 sizes-filter taps form (Rounding s m ∷ gs) = omega arith
+sizes-filter taps form (Clipping bits ∷ gs) = omega arith
 
 sizes-groups : (es : List Element) → sizes (groups es) ≡ length es
 sizes-groups [] = refl
@@ -164,6 +169,7 @@ sizes-groups (Down factor ∷ es) = let e = sizes-groups es in omega (arith, e)
 sizes-groups (CicDown factor stages delay ∷ es) = let e = sizes-groups es in omega (arith, e)
 sizes-groups (CicUp factor stages delay ∷ es) = let e = sizes-groups es in omega (arith, e)
 sizes-groups (Round shift mode ∷ es) = let e = sizes-groups es in omega (arith, e)
+sizes-groups (Clip bits ∷ es) = let e = sizes-groups es in omega (arith, e)
 
 sizes-front : (first left : List Group) → sizes first ≤ sizes (first ++ left)
 sizes-front [] left = omega arith

@@ -1,7 +1,7 @@
 -- The linear registers of the groups that were added so far.
 use Rattle.std.proofs.Common.{◌≡◌, ◌⊎◌, ℕ, zero, suc, ◌+◌, ◌<◌, ◌≤◌, Bool, true, false, if◌then◌else◌, List, [], ◌∷◌, ◌++◌, length, map, take, append_assoc, Some, slice_get, refl, sym, ◌∙◌, ap, subst, arith, inl, inr}
 use Rattle.mr_values.specs.declared.plan.Element.{Element}
-use Rattle.mr_values.specs.Timing.{Group, Fir, DownCic, UpCic, Rounding, Stream as Timed, groups, input, after, last_stream}
+use Rattle.mr_values.specs.Timing.{Group, Fir, DownCic, UpCic, Rounding, Clipping, Stream as Timed, groups, input, after, last_stream}
 use Rattle.net_graph.specs.declared.cell.Cell.{Cell}
 use Rattle.net_graph.specs.declared.cell.Stream.{Stream}
 use Rattle.net_graph.specs.declared.name.Name.{Name}
@@ -56,12 +56,14 @@ linear_from-more width whole number taken s (Fir up filter down) gs is = refl
 linear_from-more width whole number taken s (DownCic factor stages delay) gs is = refl
 linear_from-more width whole number taken s (UpCic factor stages delay) gs is = refl
 linear_from-more width whole number taken s (Rounding shift mode) gs is = absurd (cc)
+linear_from-more width whole number taken s (Clipping bits) gs is = absurd (cc)
 
 pub linear_from-none : (width : ℕ) (whole : List Element) (number taken : ℕ) (s : Timed) (g : Group) (gs : List Group) → rounds g ≡ true → linear_from width whole number taken s (g ∷ gs) ≡ []
 linear_from-none width whole number taken s (Fir up filter down) gs is = absurd (cc)
 linear_from-none width whole number taken s (DownCic factor stages delay) gs is = absurd (cc)
 linear_from-none width whole number taken s (UpCic factor stages delay) gs is = absurd (cc)
 linear_from-none width whole number taken s (Rounding shift mode) gs is = refl
+linear_from-none width whole number taken s (Clipping bits) gs is = refl
 
 -- ---- so far
 
@@ -165,6 +167,7 @@ module _ {width ticks : ℕ} {whole : List Element} {old new : List Cell} {from 
 linear-below : (gs : List Group) (n : ℕ) → is_linear_group gs n ≡ true → n < length gs
 linear-below [] n is = absurd (cc)
 linear-below (Rounding shift mode ∷ gs) n is = absurd (cc)
+linear-below (Clipping bits ∷ gs) n is = absurd (cc)
 linear-below (Fir u f d ∷ gs) zero is = omega arith
 linear-below (DownCic a b c ∷ gs) zero is = omega arith
 linear-below (UpCic a b c ∷ gs) zero is = omega arith

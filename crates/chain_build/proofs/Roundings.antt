@@ -1,6 +1,6 @@
 -- Which groups round.
 use Rattle.std.proofs.Common.{◌≡◌, Bool, true, false, cond, if◌then◌else◌, List, [], ◌∷◌, ◌++◌, ◌||◌, refl, sym, ◌∙◌, ap}
-use Rattle.mr_values.specs.Timing.{Group, Fir, DownCic, UpCic, Rounding}
+use Rattle.mr_values.specs.Timing.{Group, Fir, DownCic, UpCic, Rounding, Clipping}
 use Rattle.chain_build.specs.Built.{rounds, has_rounding, IsPlainGroup, ArePlainGroups}
 
 pub has_rounding-more : (front : List Group) (g : Group) → has_rounding (front ++ g ∷ []) ≡ (if has_rounding front then true else rounds g)
@@ -33,6 +33,7 @@ plain-group (Fir up filter down) is = tt
 plain-group (DownCic factor stages delay) is = tt
 plain-group (UpCic factor stages delay) is = tt
 plain-group (Rounding shift mode) is = absurd (cc)
+plain-group (Clipping bits) is = absurd (cc)
 
 pub plain-unrounded : (gs : List Group) → ArePlainGroups gs → has_rounding gs ≡ false
 plain-unrounded [] plain = refl
@@ -40,6 +41,7 @@ plain-unrounded (Fir up filter down ∷ gs) plain = plain-unrounded gs plain.1
 plain-unrounded (DownCic factor stages delay ∷ gs) plain = plain-unrounded gs plain.1
 plain-unrounded (UpCic factor stages delay ∷ gs) plain = plain-unrounded gs plain.1
 plain-unrounded (Rounding shift mode ∷ gs) plain = absurd plain.0
+plain-unrounded (Clipping bits ∷ gs) plain = absurd plain.0
 
 -- what is known of one more group
 pub rounded-more : (front : List Group) (g : Group) (a b : Bool) → a ≡ has_rounding front → b ≡ rounds g → (a || b) ≡ has_rounding (front ++ g ∷ [])
@@ -55,3 +57,4 @@ unrounded-plain (Fir up filter down ∷ gs) none = (tt, unrounded-plain gs none)
 unrounded-plain (DownCic factor stages delay ∷ gs) none = (tt, unrounded-plain gs none)
 unrounded-plain (UpCic factor stages delay ∷ gs) none = (tt, unrounded-plain gs none)
 unrounded-plain (Rounding shift mode ∷ gs) none = absurd (cc)
+unrounded-plain (Clipping bits ∷ gs) none = absurd (cc)

@@ -1,7 +1,7 @@
 -- The nodes of linear groups while a net grows.
 use Rattle.std.proofs.Common.{◌≡◌, ℕ, suc, ◌+◌, ◌<◌, ◌≤◌, true, List, [], ◌∷◌, ◌++◌, length, Option, sym, ◌∙◌, ap, subst, arith, inl, inr}
 use Rattle.std.proofs.lemmas.Bool.{cases_lt}
-use Rattle.mr_values.specs.Timing.{Group, Fir, DownCic, UpCic, Rounding}
+use Rattle.mr_values.specs.Timing.{Group, Fir, DownCic, UpCic, Rounding, Clipping}
 use Rattle.net_graph.specs.declared.cell.Cell.{Cell}
 use Rattle.net_graph.specs.declared.cell.Item.{Item}
 use Rattle.net_graph.specs.Cells.{NetView, cell_at}
@@ -23,6 +23,7 @@ shape_of (Fir up filter down) facts has shape = ap (λ (f : StageFacts). has_lin
 shape_of (DownCic factor stages delay) facts has shape = ap (λ (f : StageFacts). has_linear_shape f.kind) has
 shape_of (UpCic factor stages delay) facts has shape = ap (λ (f : StageFacts). has_linear_shape f.kind) has
 shape_of (Rounding shift mode) facts has shape = absurd (cc)
+shape_of (Clipping bits) facts has shape = absurd (cc)
 
 pub HasLinearItems-none : (cells : List Cell) (group : ℕ) → IsUntouched cells group → HasLinearItems cells group
 HasLinearItems-none cells group none = record { each = λ place cell at own. absurd (none.none place cell at own) }

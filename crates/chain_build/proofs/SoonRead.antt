@@ -5,7 +5,7 @@ use Rattle.std.proofs.Math.Nat.{mul-le-mul_right}
 use Rattle.std.proofs.lemmas.Int.{ints}
 use Rattle.mr_values.specs.declared.plan.Element.{Element}
 use Rattle.mr_values.specs.declared.plan.Plan.{Plan}
-use Rattle.mr_values.specs.Timing.{Group, Fir, DownCic, UpCic, Rounding, ceil_div, groups, up_factor, down_factor, taps_of}
+use Rattle.mr_values.specs.Timing.{Group, Fir, DownCic, UpCic, Rounding, Clipping, ceil_div, groups, up_factor, down_factor, taps_of}
 use Rattle.mr_values.specs.Value.{size}
 use Rattle.plan_check.specs.Accepted.{IsAccepted}
 use Rattle.plan_check.specs.Costs.{memory_of}
@@ -36,6 +36,7 @@ linear-plain (Fir u f d) is = tt
 linear-plain (DownCic a b c) is = tt
 linear-plain (UpCic a b c) is = tt
 linear-plain (Rounding k m) is = absurd (cc)
+linear-plain (Clipping bits) is = absurd (cc)
 
 -- as many as the values that the group remembers, and two more
 linear-short : (g : Group) (facts : StageFacts) → HasFacts g facts → is_linear (kind_of g) ≡ true → 0 < up_factor g → facts.longest ≤ memory_of g / up_factor g + 2
@@ -46,6 +47,7 @@ linear-short (Fir u f d) facts has is some =
 linear-short (DownCic a b c) facts has is some = absurd (cc)
 linear-short (UpCic a b c) facts has is some = absurd (cc)
 linear-short (Rounding k m) facts has is some = absurd (cc)
+linear-short (Clipping bits) facts has is some = absurd (cc)
 
 -- every index is a class with one round
 one-turn : (classes step : ℕ) → 1 / common classes 1 * step ≡ step

@@ -3,16 +3,18 @@ use Rattle.std.proofs.Common.{◌≡◌, ℕ, zero, suc, ◌+◌, ◌-◌, ◌*�
 use Rattle.std.specs.Prelude.{unsigned_abs, unwrap_or}
 use Rattle.std.proofs.lemmas.Int.{ints}
 use Rattle.mr_values.specs.declared.plan.Mode.{Mode}
-use Rattle.mr_values.specs.declared.plan.Element.TheVariants.{Round}
+use Rattle.mr_values.specs.declared.plan.Element.TheVariants.{Round, Clip}
 use Rattle.mr_values.specs.declared.plan.Form.{Form}
 use Rattle.mr_values.specs.Sequence.{Sequence, weighted_sum, filter, filter_times, ones, up, down}
-use Rattle.mr_values.specs.Value.{round, round_value}
+use Rattle.mr_values.specs.Value.{round, round_value, clip}
+use Rattle.mr_values.specs.Rounding.{clip_value}
+use Rattle.mr_values.proofs.ClipLemmas.{clip_zero}
 use Rattle.mr_values.specs.Width.{floor_quotient, floor_remainder}
-use Rattle.mr_values.specs.Timing.{Group, Fir, DownCic, UpCic, Rounding, taps_of, low_end, high_end, low_after, high_after}
+use Rattle.mr_values.specs.Timing.{Group, Fir, DownCic, UpCic, Rounding, Clipping, taps_of, low_end, high_end, low_after, high_after}
 use Rattle.mr_values.proofs.Zeros.{zeros, apply-zeros}
 use Rattle.plan_check.specs.Groups.{IsGroup}
 use Rattle.plan_laws.specs.Laws.{IsBetween}
-use Rattle.plan_laws.proofs.Between.{between-filter, between-up, between-down, between-moving, between-round}
+use Rattle.plan_laws.proofs.Between.{between-filter, between-up, between-down, between-moving, between-round, between-clip}
 use Rattle.plan_laws.proofs.Reach.{apply_group, optional, filter_by}
 use Rattle.stage_law.specs.Streams.{HasRoom}
 use Rattle.span_ranges.specs.Span.{IsInSpan}
@@ -32,7 +34,10 @@ causal-round shift mode v some h n = ap (round_value mode shift) (h n) ∙ round
 -- ---- a group
 
 in_span-round : (shift : ℕ) (mode : Mode) (low high : ℤ) (v : Sequence) → 1 ≤ shift → IsInSpan low high v → IsInSpan (round_value mode shift low) (round_value mode shift high) (round mode shift v)
-in_span-round shift mode low high v some h = record { causal = causal-round shift mode v some h.causal; within = between-round mode shift low high v h.within }
+in_span-round shift mode low high v some h = record { causal = causal-round shift mode v some h.causal; within = between-round mode shift low high v some h.within }
+
+in_span-clip : (bits : ℕ) (low high : ℤ) (v : Sequence) → IsInSpan low high v → IsInSpan (clip_value bits low) (clip_value bits high) (clip bits v)
+in_span-clip bits low high v h = record { causal = λ n. ap (clip_value bits) (h.causal n) ∙ clip_zero bits; within = between-clip bits low high v h.within }
 
 pub zero-in_span : (low high : ℤ) (v : Sequence) → IsInSpan low high v → IsBetween low high (pos 0)
 zero-in_span low high v h = subst (λ (z : ℤ). IsBetween low high z) (h.causal 0) (h.within (negsuc 0))
@@ -92,6 +97,7 @@ in_span-group (UpCic factor stages delay) low high v limits is h =
       within = between-moving stages all low high (up factor v) (between-up factor low high v (zero-in_span low high v h) h.within);
     }
 in_span-group (Rounding shift mode) low high v limits is h = in_span-round shift mode low high v limits.0 h
+in_span-group (Clipping bits) low high v limits is h = in_span-clip bits low high v h
 
 -- ---- spans that hold 0
 

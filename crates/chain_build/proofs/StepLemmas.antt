@@ -7,7 +7,7 @@ use Rattle.mr_values.specs.declared.plan.Form.{Form}
 use Rattle.mr_values.specs.declared.plan.Form.TheVariants.{Parallel}
 use Rattle.mr_values.specs.declared.plan.Plan.{Plan}
 use Rattle.mr_values.specs.Sequence.{Sequence, samples}
-use Rattle.mr_values.specs.Timing.{Group, Fir, DownCic, UpCic, Rounding, groups, taps_of, form_of}
+use Rattle.mr_values.specs.Timing.{Group, Fir, DownCic, UpCic, Rounding, Clipping, groups, taps_of, form_of}
 use Rattle.mr_values.specs.Value.{size, chain}
 use Rattle.mr_values.specs.Width.{FitsWidth}
 use Rattle.net_graph.specs.declared.cell.Cell.{Cell}
@@ -89,10 +89,12 @@ linear-place [] (Fir u f d) left is = record { before = refl; plain = refl; line
 linear-place [] (DownCic a b c) left is = record { before = refl; plain = refl; linear = is }
 linear-place [] (UpCic a b c) left is = record { before = refl; plain = refl; linear = is }
 linear-place [] (Rounding s m) left is = absurd (cc)
+linear-place [] (Clipping bits) left is = absurd (cc)
 linear-place (Fir u f d ∷ front) g left is = let l = linear-place front g left is in record { before = l.before; plain = l.plain; linear = l.linear }
 linear-place (DownCic a b c ∷ front) g left is = let l = linear-place front g left is in record { before = l.before; plain = l.plain; linear = l.linear }
 linear-place (UpCic a b c ∷ front) g left is = let l = linear-place front g left is in record { before = l.before; plain = l.plain; linear = l.linear }
 linear-place (Rounding s m ∷ front) g left is = absurd (cc)
+linear-place (Clipping bits ∷ front) g left is = absurd (cc)
 
 linear-at : (es : List Element) (front : List Group) (g : Group) (left : List Group) (number : ℕ) → groups es ≡ front ++ g ∷ left → number ≡ 1 + length front → is_linear_number (groups es) number ≡ true → IsLinearAt front g
 linear-at es front g left number parts count is =
@@ -111,6 +113,7 @@ tells_own (Fir u f d) facts plain has linear = tells-fir u f d facts plain has
 tells_own (DownCic r n m) facts plain has linear = absurd (cc)
 tells_own (UpCic r n m) facts plain has linear = absurd (cc)
 tells_own (Rounding s m) facts plain has linear = absurd (cc)
+tells_own (Clipping bits) facts plain has linear = absurd (cc)
 
 -- ---- the step of a linear group
 
@@ -172,6 +175,7 @@ module _ {plan : Plan} {old net mid new : NetView} {from last : Stream} {rest : 
       by (DownCic a b c) is = absurd (let e : slice_get (own_registers (size plan.width) plan.elements number (sizes front) so.stream (DownCic a b c)) i ≡ Some r = subst (λ (h : Group). slice_get (own_registers (size plan.width) plan.elements number (sizes front) so.stream h) i ≡ Some r) is there in cc)
       by (UpCic a b c) is = absurd (let e : slice_get (own_registers (size plan.width) plan.elements number (sizes front) so.stream (UpCic a b c)) i ≡ Some r = subst (λ (h : Group). slice_get (own_registers (size plan.width) plan.elements number (sizes front) so.stream h) i ≡ Some r) is there in cc)
       by (Rounding s m) is = absurd (let e : true ≡ false = sym (ap rounds is) ∙ plain in cc)
+      by (Clipping bits) is = absurd (let e : true ≡ false = sym (ap rounds is) ∙ plain in cc)
 
   pub is_step : IsStep (size plan.width) plan.elements net.cells new.cells from front g so.stream number
   is_step = record {

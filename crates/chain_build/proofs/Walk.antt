@@ -4,7 +4,7 @@ use Rattle.std.specs.Prelude.{unsigned_abs}
 use Rattle.std.proofs.lemmas.Nat.{div-add-mod'}
 use Rattle.std.proofs.lemmas.Bool.{cases_lt}
 use Rattle.std.proofs.Math.Nat.{mul-le-mul_right}
-use Rattle.mr_values.specs.Timing.{Group, Fir, DownCic, UpCic, Rounding, Stream, input, after, up_factor, down_factor, period_after, group_delay}
+use Rattle.mr_values.specs.Timing.{Group, Fir, DownCic, UpCic, Rounding, Clipping, Stream, input, after, up_factor, down_factor, period_after, group_delay}
 use Rattle.plan_check.specs.Groups.{size_of, last_of, first_failing, IsGroup}
 use Rattle.plan_check.specs.Amounts.{rate_test, gain}
 use Rattle.plan_check.specs.Accepted.{rates_test, peaks_test, costs_test, no_tally}
@@ -42,6 +42,7 @@ factors_some (Fir up filter down) h = (h.up_low, h.down_low)
 factors_some (DownCic factor stages delay) h = (omega arith, h.factor_low)
 factors_some (UpCic factor stages delay) h = (h.factor_low, omega arith)
 factors_some (Rounding shift mode) h = (omega arith, omega arith)
+factors_some (Clipping bits) h = (omega arith, omega arith)
 
 times_some : (a b : ℕ) → 1 ≤ a → 1 ≤ b → 1 ≤ a * b
 times_some (suc a) (suc b) p q = omega arith

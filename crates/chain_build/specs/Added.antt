@@ -3,7 +3,7 @@ use Rattle.std.specs.Prelude.{◌≡◌, ℕ, ℤ, ◌-◌, ◌*◌, ◌%◌, �
 use Rattle.mr_values.specs.declared.plan.Element.{Element}
 use Rattle.mr_values.specs.Sequence.{samples}
 use Rattle.mr_values.specs.Value.{chain}
-use Rattle.mr_values.specs.Timing.{Group, Fir, DownCic, UpCic, Rounding, taps_of, up_factor, down_factor, groups, last_stream}
+use Rattle.mr_values.specs.Timing.{Group, Fir, DownCic, UpCic, Rounding, Clipping, taps_of, up_factor, down_factor, groups, last_stream}
 use Rattle.mr_values.specs.Width.{FitsWidth}
 use Rattle.net_graph.specs.declared.cell.Cell.{Cell}
 use Rattle.net_graph.specs.declared.cell.Stream.{Stream}
@@ -34,6 +34,7 @@ HasFacts (Fir up filter down) facts = facts ≡ polyphase_facts (taps_of filter)
 HasFacts (DownCic factor stages delay) facts = facts ≡ cic_down_facts factor stages delay
 HasFacts (UpCic factor stages delay) facts = facts ≡ cic_up_facts factor stages delay
 HasFacts (Rounding shift mode) facts = facts ≡ rounding_facts shift mode
+HasFacts (Clipping bits) facts = ⊥
 
 -- the periods at which a group takes a stream
 pub record IsTaking (g : Group) (period : ℕ) : Type 0 where

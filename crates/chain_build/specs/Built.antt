@@ -2,10 +2,11 @@
 use Rattle.std.specs.Prelude.{◌≡◌, Bool, true, false, if◌then◌else◌, List, [], ◌∷◌}
 use Rattle.std.specs.List.{list_all}
 use Rattle.mr_values.specs.declared.plan.Element.{Element}
-use Rattle.mr_values.specs.declared.plan.Element.TheVariants.{Up, Down, Filter, CicDown, CicUp, Round}
+use Rattle.mr_values.specs.declared.plan.Element.TheVariants.{Up, Down, Filter, CicDown, CicUp, Round, Clip}
 use Rattle.mr_values.specs.declared.plan.Form.{Form}
 use Rattle.mr_values.specs.declared.plan.Form.TheVariants.{Parallel, Symmetric, HalfBand, Folded, Distributed}
-use Rattle.mr_values.specs.Timing.{Group, Fir, DownCic, UpCic, Rounding, form_of}
+use Rattle.mr_values.specs.Timing.{Group, Fir, DownCic, UpCic, Rounding, Clipping, form_of}
+use Rattle.rounding_stage.specs.Rounding.{is_built_mode}
 use Rattle.stage_law.specs.declared.stage.Kind.{Kind}
 use Rattle.stage_law.specs.declared.stage.Kind.TheVariants as kind
 
@@ -23,7 +24,8 @@ is_built (Down factor) = true
 is_built (Filter taps form) = is_parallel form
 is_built (CicDown factor stages delay) = true
 is_built (CicUp factor stages delay) = true
-is_built (Round shift mode) = true
+is_built (Round shift mode) = is_built_mode mode
+is_built (Clip bits) = false
 
 -- all elements are built
 abbrev pub are_built : List Element → Bool
@@ -34,7 +36,8 @@ abbrev pub IsBuiltGroup : Group → Type 0
 IsBuiltGroup (Fir up filter down) = form_of filter ≡ Parallel
 IsBuiltGroup (DownCic factor stages delay) = Unit {0}
 IsBuiltGroup (UpCic factor stages delay) = Unit {0}
-IsBuiltGroup (Rounding shift mode) = Unit {0}
+IsBuiltGroup (Rounding shift mode) = is_built_mode mode ≡ true
+IsBuiltGroup (Clipping bits) = ⊥
 
 abbrev pub AreBuiltGroups : List Group → Type 0
 AreBuiltGroups [] = Unit {0}
@@ -54,26 +57,29 @@ kind_of (Fir up filter down) = form_kind (form_of filter)
 kind_of (DownCic factor stages delay) = kind.CicDown
 kind_of (UpCic factor stages delay) = kind.CicUp
 kind_of (Rounding shift mode) = kind.Rounding
+kind_of (Clipping bits) = kind.Clipping
 
 -- ---- which groups don't round
 
--- a group that doesn't round
+-- a group that neither rounds nor clips
 abbrev pub IsPlainGroup : Group → Type 0
 IsPlainGroup (Fir up filter down) = Unit {0}
 IsPlainGroup (DownCic factor stages delay) = Unit {0}
 IsPlainGroup (UpCic factor stages delay) = Unit {0}
 IsPlainGroup (Rounding shift mode) = ⊥
+IsPlainGroup (Clipping bits) = ⊥
 
 abbrev pub ArePlainGroups : List Group → Type 0
 ArePlainGroups [] = Unit {0}
 ArePlainGroups (g ∷ gs) = IsPlainGroup g × ArePlainGroups gs
 
--- whether a group rounds, and whether one of several does
+-- whether a group rounds or clips, and whether one of several does
 abbrev pub rounds : Group → Bool
 rounds (Fir up filter down) = false
 rounds (DownCic factor stages delay) = false
 rounds (UpCic factor stages delay) = false
 rounds (Rounding shift mode) = true
+rounds (Clipping bits) = true
 
 abbrev pub has_rounding : List Group → Bool
 has_rounding [] = false

@@ -3,7 +3,7 @@ use Rattle.std.specs.Prelude.{ℕ, zero, suc, ◌+◌, nat_eq, if◌then◌else�
 use Rattle.mr_values.specs.declared.plan.Element.{Element}
 use Rattle.mr_values.specs.declared.plan.Form.{Form}
 use Rattle.mr_values.specs.declared.plan.Form.TheVariants.{Parallel, Symmetric, HalfBand, Folded, Distributed}
-use Rattle.mr_values.specs.Timing.{Group, Fir, DownCic, UpCic, Rounding, Stream, groups, input, after, last_stream, taps_of, form_of}
+use Rattle.mr_values.specs.Timing.{Group, Fir, DownCic, UpCic, Rounding, Clipping, Stream, groups, input, after, last_stream, taps_of, form_of}
 use Rattle.net_graph.specs.declared.name.Name.{Name}
 use Rattle.net_graph.specs.declared.name.NameKind.TheVariants.{Output}
 use Rattle.pipeline_balance.specs.Numbered.{name_of}
@@ -55,6 +55,7 @@ group_registers (Fir up filter down) period = fir_registers (form_of filter) (ta
 group_registers (DownCic factor stages delay) period = []
 group_registers (UpCic factor stages delay) period = []
 group_registers (Rounding shift mode) period = []
+group_registers (Clipping bits) period = []
 
 -- every index
 abbrev pub each_index : Class
@@ -75,6 +76,7 @@ output_range w ticks elements =
 abbrev pub linear_from : ℕ → List Element → ℕ → ℕ → Stream → List Group → List LinearRegister
 linear_from w elements number taken s [] = register_of w 0 (record { elements = elements; period = s.period; offset = s.offset }) output_register ∷ []
 linear_from w elements number taken s (Rounding shift mode ∷ gs) = []
+linear_from w elements number taken s (Clipping bits ∷ gs) = []
 linear_from w elements number taken s (g ∷ gs) =
     map (register_of w number (record { elements = take taken elements; period = s.period; offset = s.offset })) (group_registers g s.period)
     ++ linear_from w elements (number + 1) (taken + size_of g) (after g s) gs
@@ -88,6 +90,7 @@ linear w ticks elements = linear_from w elements 1 0 (input w ticks) (groups ele
 abbrev pub is_linear_group : List Group → ℕ → Bool
 is_linear_group [] n = false
 is_linear_group (Rounding shift mode ∷ gs) n = false
+is_linear_group (Clipping bits ∷ gs) n = false
 is_linear_group (g ∷ gs) zero = is_linear (kind_of g)
 is_linear_group (g ∷ gs) (suc n) = is_linear_group gs n
 

@@ -9,6 +9,7 @@ ghost use Rattle.pipeline_balance.specs.Numbered.{name_of};
 ghost use Rattle.plan_check.specs.Accepted.{IsAccepted, AreFacts};
 ghost use Rattle.stage_law.specs.Streams.{HasRoom};
 ghost use Rattle.width_extreme.specs.Prefix.{IsStream};
+ghost use Rattle.rounding_stage.specs.Rounding.{is_built_mode};
 ghost use Rattle.chain_build.specs.Built.{are_built, is_built, is_parallel, has_rounding};
 ghost use Rattle.chain_build.specs.ChainNet.{IsChainNet};
 ghost use Rattle.chain_build.specs.GroupCosts.{HasCosts};
@@ -24,7 +25,7 @@ use crate::extremes::{LinearPeak, RegisterExtreme, extremes_of, keep_peaks, need
 use crate::groups::{GroupCost, add_groups};
 use crate::output::{Outputs, add_outputs, range_width};
 use crate::prefix::{prefix_ranges, width_of};
-use mr_values::{Element, Form, Memory, Plan};
+use mr_values::{Element, Form, Memory, Mode, Plan};
 use net_graph::{Net, Netlist, Node, Stream};
 use plan_check::Facts;
 use stage_law::{Class, Peak, Range, Ranges, WeightedSum};
@@ -53,6 +54,16 @@ fn is_parallel(form: Form) -> bool
     matches!(form, Form::Parallel)
 }
 
+// Whether a rounding of this mode is built.
+fn is_built_mode(mode: Mode) -> bool
+    ensures { result ≡ is_built_mode mode }
+{
+    match mode {
+        Mode::HalfUp | Mode::Floor => true,
+        Mode::HalfEven => false,
+    }
+}
+
 // Whether the element is built.
 fn can_add(element: &Element) -> bool
     ensures { result ≡ is_built element.now }
@@ -62,8 +73,9 @@ fn can_add(element: &Element) -> bool
         Element::Up { .. }
         | Element::Down { .. }
         | Element::CicDown { .. }
-        | Element::CicUp { .. }
-        | Element::Round { .. } => true,
+        | Element::CicUp { .. } => true,
+        Element::Round { mode, .. } => is_built_mode(*mode),
+        Element::Clip { .. } => false,
     }
 }
 

@@ -51,7 +51,7 @@ pub(crate) fn is_linear(kind: Kind) -> bool
 {
     match kind {
         Kind::Parallel | Kind::Symmetric | Kind::HalfBand | Kind::Folded => true,
-        Kind::Distributed | Kind::CicDown | Kind::CicUp | Kind::Rounding => false,
+        Kind::Distributed | Kind::CicDown | Kind::CicUp | Kind::Rounding | Kind::Clipping => false,
     }
 }
 

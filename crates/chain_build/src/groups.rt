@@ -124,6 +124,7 @@ fn add_group<R: Ranges>(
             let added = emit_stage(alloc, net, from, &stage, ranges)?;
             Ok(added)
         }
+        PlanGroup::Clip { .. } => unreachable!(),
         PlanGroup::Fir { filter, .. } => {
             let rates = Rates {
                 up: group.up(),
@@ -146,12 +147,12 @@ fn add_group<R: Ranges>(
     }
 }
 
-// Whether the group rounds.
+// Whether the group rounds or clips.
 fn is_rounding(group: &PlanGroup) -> bool
     ensures { result ≡ rounds (group_of group.now) }
 {
     match group {
-        PlanGroup::Round { .. } => true,
+        PlanGroup::Round { .. } | PlanGroup::Clip { .. } => true,
         PlanGroup::Fir { .. } | PlanGroup::CicDown { .. } | PlanGroup::CicUp { .. } => false,
     }
 }

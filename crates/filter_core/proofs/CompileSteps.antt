@@ -29,14 +29,15 @@ use Rattle.plan_check.specs.Accepted.{AreFacts}
 use Rattle.plan_laws.proofs.Errors.{bound_holds}
 use Rattle.plan_laws.proofs.Passes.{passes_of}
 use Rattle.chain_build.specs.Built.{are_built}
+use Rattle.chain_build.proofs.ChainLemmas.{built-unclipped}
 use Rattle.filter_core.specs.declared.accept.AcceptedPlan.{AcceptedPlan}
 use Rattle.filter_core.specs.PlanFile.{IsAcceptedFile, AreReadToEnd}
 use Rattle.filter_core.specs.Reading.{IsAcceptedPlan}
 use Rattle.filter_core.specs.Compile.{IsBounded, AreOutputs, CompileEnds}
 
 -- the reported bound holds
-bounded_by : (w t : ℕ) (elements : List Element) (facts : Facts) → All IsWithinLimits elements → AreFacts w t elements facts → IsBounded elements facts
-bounded_by w t elements facts limits are xs n = rw (are.bound_is, are.shift_is) (bound_holds elements limits xs n)
+bounded_by : (w t : ℕ) (elements : List Element) (facts : Facts) → are_built elements ≡ true → All IsWithinLimits elements → AreFacts w t elements facts → IsBounded elements facts
+bounded_by w t elements facts built limits are xs n = rw (are.bound_is, are.shift_is) (bound_holds elements limits (built-unclipped elements built) xs n)
 
 -- ---- the report is that of the module that is read
 
@@ -76,7 +77,7 @@ outputs_of plan files text lines accepted file_is is_plan built chain is_chain w
   tells = is_chain.extremes written.design written.same;
   lines = reported.told (groups accepted.plan.elements) is_chain.costs (is_chain.output written.design written.same ∙ same_output written.design (design_view chain.design) written.same)
       ∙ sym (same_report accepted.facts (groups accepted.plan.elements) written.design (design_view chain.design) written.same (told_at chain.extremes.items));
-  bounded = bounded_by (size accepted.plan.width) (size accepted.plan.ticks) accepted.plan.elements accepted.facts ((passes_of accepted.plan is_plan.passes).limits.elements) is_plan.are_facts;
+  bounded = bounded_by (size accepted.plan.width) (size accepted.plan.ticks) accepted.plan.elements accepted.facts built ((passes_of accepted.plan is_plan.passes).limits.elements) is_plan.are_facts;
 }
 
 -- the plan was read, and then nothing was read again

@@ -9,7 +9,7 @@ use Rattle.mr_values.specs.Files.{Files}
 use Rattle.mr_values.specs.Host.{HostState}
 use Rattle.mr_values.specs.declared.host.HostCall.TheVariants.{OpenInput, Next, OpenOutput, Put}
 use Rattle.mr_values.specs.declared.plan.Element.{Element}
-use Rattle.mr_values.specs.declared.plan.Element.TheVariants.{Up, Down, Filter, CicDown, CicUp, Round}
+use Rattle.mr_values.specs.declared.plan.Element.TheVariants.{Up, Down, Filter, CicDown, CicUp, Round, Clip}
 use Rattle.mr_values.specs.declared.plan.Plan.{Plan}
 use Rattle.mr_values.specs.Value.{size, chain, IsFromOne, IsWithinLimits}
 use Rattle.plan_check.specs.Accepted.{IsAccepted}
@@ -37,6 +37,7 @@ factor_of (Filter taps form) h = tt
 factor_of (CicDown factor stages delay) h = tt
 factor_of (CicUp factor stages delay) h = tt
 factor_of (Round shift mode) h = tt
+factor_of (Clip bits) h = tt
 
 each_factor : (es : List Element) → All IsWithinLimits es → HaveFactors es
 each_factor [] h = tt

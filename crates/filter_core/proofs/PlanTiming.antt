@@ -2,14 +2,14 @@
 use Rattle.std.proofs.Common.{ℕ, zero, suc, ◌+◌, ◌-◌, ◌≤◌, ◌^◌, List, [], ◌∷◌, length, sym, subst, arith}
 use Rattle.std.specs.Prelude.{All}
 use Rattle.mr_values.specs.declared.plan.Element.{Element}
-use Rattle.mr_values.specs.declared.plan.Element.TheVariants.{Up, Down, Filter, CicDown, CicUp, Round}
+use Rattle.mr_values.specs.declared.plan.Element.TheVariants.{Up, Down, Filter, CicDown, CicUp, Round, Clip}
 use Rattle.mr_values.specs.declared.plan.Plan.{Plan}
 use Rattle.mr_values.specs.Timing.{Group, Stream, groups, input, after, after_all}
 use Rattle.mr_values.specs.Value.{size, IsWithinLimits}
 use Rattle.plan_check.specs.Accepted.{IsAccepted, no_tally}
 use Rattle.plan_check.specs.Costs.{Tally, tally_after}
 use Rattle.plan_check.specs.Groups.{size_of, IsGroup, IsSplit}
-use Rattle.plan_check.proofs.GroupSplit.{IsSplit-fir, IsSplit-cic_down, IsSplit-cic_up, IsSplit-round}
+use Rattle.plan_check.proofs.GroupSplit.{IsSplit-fir, IsSplit-cic_down, IsSplit-cic_up, IsSplit-round, IsSplit-clip}
 use Rattle.plan_laws.proofs.Passes.{passes_of}
 use Rattle.chain_build.proofs.SoFar.{size_least, size_most}
 use Rattle.chain_build.proofs.Walk.{IsWalk, walk_start, walk_next}
@@ -34,6 +34,7 @@ split_of (Filter taps form) es h = record { group = _; rest = _; split = IsSplit
 split_of (CicDown factor stages delay) es h = record { group = _; rest = _; split = IsSplit-cic_down factor stages delay es h }
 split_of (CicUp factor stages delay) es h = record { group = _; rest = _; split = IsSplit-cic_up factor stages delay es h }
 split_of (Round shift mode) es h = record { group = _; rest = _; split = IsSplit-round shift mode es h }
+split_of (Clip bits) es h = record { group = _; rest = _; split = IsSplit-clip bits es h }
 
 are_groups : (n : ℕ) (elements : List Element) → length elements ≤ n → All IsWithinLimits elements → AreGroups (groups elements)
 are_groups n [] few h = tt

@@ -3,7 +3,7 @@ use Rattle.std.specs.Prelude.{ℕ, List, codes}
 use Rattle.mr_values.specs.declared.host.HostCall.{HostCall}
 use Rattle.mr_values.specs.declared.host.HostCall.TheVariants.{OpenInput, Next, OpenOutput, Put}
 use Rattle.plan_check.specs.declared.fault.LimitWhich.{LimitWhich}
-use Rattle.plan_check.specs.declared.fault.LimitWhich.TheVariants.{Width, Ticks, Elements, Factor, Stages, Delay, Taps, Tap, Slots, Group, Shift}
+use Rattle.plan_check.specs.declared.fault.LimitWhich.TheVariants.{Width, Ticks, Elements, Factor, Stages, Delay, Taps, Tap, Slots, Group, Shift, Bits}
 use Rattle.plan_check.specs.declared.fault.CostWhich.{CostWhich}
 use Rattle.plan_check.specs.declared.fault.CostWhich.TheVariants.{Terms, Latency, Work, Response, Cycle}
 use Rattle.plan_reader.specs.declared.fault.FieldWhy.{FieldWhy}
@@ -29,6 +29,7 @@ limit_text Tap = codes "Tap"
 limit_text Slots = codes "Slots"
 limit_text Group = codes "Group"
 limit_text Shift = codes "Shift"
+limit_text Bits = codes "Bits"
 
 abbrev pub cost_text : CostWhich → List ℕ
 cost_text Terms = codes "Terms"

@@ -3,7 +3,7 @@ use Rattle.std.specs.Prelude.{◌≡◌, ℕ, ℤ, List, [], Some, Result, Ok, E
 use Rattle.std.specs.declared.alloc.Global.{Global}
 use Rattle.mr_values.specs.Files.{Files}
 use Rattle.mr_values.specs.Host.{HostState, left_of}
-use Rattle.mr_values.specs.Value.{size}
+use Rattle.mr_values.specs.Value.{size, AreFirst}
 use Rattle.mr_values.specs.declared.host.HostCall.TheVariants.{OpenInput, Next}
 use Rattle.mr_values.specs.declared.plan.Plan.{Plan}
 use Rattle.plan_check.specs.Accepted.{first_fault, IsAccepted, AreFacts}
@@ -59,10 +59,11 @@ pub record ReadsTapFiles (text : PlanText) (result : Result Plan Fault) (old new
   pub end : OnOk result (left_of old ≡ [] → left_of new ≡ [])
   pub files : new.files ≡ old.files
 
--- a plan is accepted, and these are its facts
+-- a plan is accepted, and these are its facts; its elements are of version 1
 pub record IsAcceptedPlan (accepted : AcceptedPlan) : Type 0 where
   pub passes : IsAccepted accepted.plan
   pub are_facts : AreFacts (size accepted.plan.width) (size accepted.plan.ticks) accepted.plan.elements accepted.facts
+  pub first : AreFirst accepted.plan.elements
 
 -- what is answered for a plan
 abbrev pub CheckAnswer : Plan → Result AcceptedPlan Fault → Type 0

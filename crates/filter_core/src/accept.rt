@@ -1,5 +1,6 @@
 // Plans and their tap files, read from a host, and which of them are accepted.
 ghost use Rattle.std.specs.Prelude.{◌≡◌, ◌≢◌, Err, IfOk, IsTrue};
+ghost use Rattle.mr_values.specs.Value.{AreFirst};
 ghost use Rattle.filter_core.specs.Ends.{EndsWith, IsThisFile, call_of};
 ghost use Rattle.filter_core.specs.PlanFaults.{fault_of_reading, fault_of_taps, fault_of_check};
 ghost use Rattle.filter_core.specs.PlanFile.{IsTapFile, IsOfPlan};
@@ -43,7 +44,8 @@ pub fn read_accepted<H: Host>(
 
 // The plan that the bytes of PLAN say, and the tap files that they name.
 fn text_of(alloc: Global, bytes: &[u8]) -> Result<PlanText, Fault>
-    ensures { TextAnswer bytes.now result }
+    ensures answer { TextAnswer bytes.now result }
+    ensures first { IfOk result (λ text. AreFirst text.plan.elements) }
 {
     match read_plan(alloc, bytes) {
         Ok(text) => Ok(text),
@@ -53,6 +55,8 @@ fn text_of(alloc: Global, bytes: &[u8]) -> Result<PlanText, Fault>
 
 // The plan with the taps of its tap files.
 fn read_tap_files<H: Host>(alloc: Global, host: &mut H, mut text: PlanText) -> Result<Plan, Fault>
+    requires first { AreFirst text.plan.elements }
+    ensures first { IfOk result (λ plan. AreFirst plan.elements) }
     ensures cause { EndsWith (IsTapFile text) (call_of result) (H.state host.old) (H.state host.new) }
     ensures command { result ≢ Err Fault.Usage }
     ensures told { IsTrue (H.state host.old).tells → ReadsTapFiles text result (H.state host.old) (H.state host.new) }
@@ -82,6 +86,7 @@ fn read_tap_file<H: Host>(alloc: Global, host: &mut H, file: &TapFile) -> Result
 
 // The plan with its facts, where it passes all tests.
 fn accept(alloc: Global, plan: Plan) -> Result<AcceptedPlan, Fault>
+    requires { AreFirst plan.elements }
     ensures { CheckAnswer plan result }
 {
     match check_plan(alloc, &plan) {

@@ -32,6 +32,7 @@ pub fn limit_name(which: LimitWhich) -> &'static str
         LimitWhich::Slots => "Slots",
         LimitWhich::Group => "Group",
         LimitWhich::Shift => "Shift",
+        LimitWhich::Bits => "Bits",
     }
 }
 

@@ -1,5 +1,6 @@
 // The command `noble`.
 ghost use Rattle.std.specs.Prelude.{◌≢◌, Err, IfOk, IsTrue};
+ghost use Rattle.mr_values.specs.Value.{AreFirst};
 ghost use Rattle.plan_check.specs.Accepted.{IsAccepted};
 ghost use Rattle.filter_core.specs.Ends.{EndsWith, call_of};
 ghost use Rattle.filter_core.specs.Noble.{IsRewriting, NobleEnds};
@@ -32,7 +33,8 @@ pub fn noble<H: Host>(alloc: Global, plan: &str, out: &str, host: &mut H) -> Res
 
 // The text of an accepted plan with the noble identities applied.
 fn rewritten_text(alloc: Global, mut plan: Plan) -> Result<Vec<u8>, Memory>
-    requires { IsAccepted plan }
+    requires accepted { IsAccepted plan }
+    requires first { AreFirst plan.elements }
     ensures { IfOk result (λ text. IsRewriting plan text.items) }
 {
     let rewritten = rewrite(alloc, plan.elements.as_slice())?;

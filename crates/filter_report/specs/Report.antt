@@ -4,7 +4,7 @@ use Rattle.std.specs.Fmt.{signed_decimal}
 use Rattle.mr_values.specs.Timing.{Group}
 use Rattle.plan_check.specs.declared.facts.Facts.{Facts}
 use Rattle.stage_law.specs.declared.stage.Kind.{Kind}
-use Rattle.stage_law.specs.declared.stage.Kind.TheVariants.{Parallel, Symmetric, HalfBand, Folded, Distributed, CicDown, CicUp, Rounding}
+use Rattle.stage_law.specs.declared.stage.Kind.TheVariants.{Parallel, Symmetric, HalfBand, Folded, Distributed, CicDown, CicUp, Rounding, Clipping}
 use Rattle.chain_build.specs.Built.{kind_of}
 use Rattle.verilog_tree.specs.declared.tree.Signal.{Signal}
 use Rattle.verilog_tree.specs.Counted.{Counts, counted, is_reg}
@@ -27,6 +27,7 @@ kind_word Distributed = codes "distributed"
 kind_word CicDown = codes "cic_down"
 kind_word CicUp = codes "cic_up"
 kind_word Rounding = codes "round"
+kind_word Clipping = codes "clip"
 
 -- the form of a group, and its adders, window registers and tables
 abbrev pub group_line : ℕ → Kind → Counts → List ℕ

@@ -21,6 +21,7 @@ fn kind_word(kind: Kind) -> &'static str
         Kind::CicDown => "cic_down",
         Kind::CicUp => "cic_up",
         Kind::Rounding => "round",
+        Kind::Clipping => "clip",
     }
 }
 

@@ -5,9 +5,9 @@ use Rattle.std.proofs.lemmas.Bool.{eq-eqb}
 use Rattle.std.proofs.lemmas.List.Sums.{sum_by-cons}
 use Rattle.std.proofs.lemmas.Option.{slice_get_within}
 use Rattle.mr_values.specs.declared.plan.Element.{Element}
-use Rattle.mr_values.specs.declared.plan.Element.TheVariants.{Up, Down, Filter, CicDown, CicUp, Round}
+use Rattle.mr_values.specs.declared.plan.Element.TheVariants.{Up, Down, Filter, CicDown, CicUp, Round, Clip}
 use Rattle.mr_values.specs.declared.plan.Form.{Form}
-use Rattle.mr_values.specs.Timing.{Group, Fir, DownCic, UpCic, Rounding, join_up, join_filter, groups}
+use Rattle.mr_values.specs.Timing.{Group, Fir, DownCic, UpCic, Rounding, Clipping, join_up, join_filter, groups}
 use Rattle.mr_values.specs.Value.{size}
 use Rattle.net_graph.specs.declared.cell.Cell.{Cell}
 use Rattle.net_graph.specs.declared.name.Name.{Name}
@@ -88,6 +88,7 @@ few_up factor (Fir (Some u) f down ∷ gs) = omega arith
 few_up factor (DownCic other stages delay ∷ gs) = omega arith
 few_up factor (UpCic other stages delay ∷ gs) = omega arith
 few_up factor (Rounding shift mode ∷ gs) = omega arith
+few_up factor (Clipping bits ∷ gs) = omega arith
 
 few_filter : (taps : List ℤ) (form : Form) (gs : List Group) → length (join_filter taps form gs) ≤ suc (length gs)
 few_filter taps form [] = omega arith
@@ -98,6 +99,7 @@ few_filter taps form (Fir (Some u) (Some f) down ∷ gs) = omega arith
 few_filter taps form (DownCic factor stages delay ∷ gs) = omega arith
 few_filter taps form (UpCic factor stages delay ∷ gs) = omega arith
 few_filter taps form (Rounding shift mode ∷ gs) = omega arith
+few_filter taps form (Clipping bits ∷ gs) = omega arith
 
 pub few_groups : (es : List Element) → length (groups es) ≤ length es
 few_groups [] = omega arith
@@ -107,6 +109,7 @@ few_groups (Filter taps form ∷ es) = omega (arith, few_filter taps form (group
 few_groups (CicDown factor stages delay ∷ es) = omega (arith, few_groups es)
 few_groups (CicUp factor stages delay ∷ es) = omega (arith, few_groups es)
 few_groups (Round shift mode ∷ es) = omega (arith, few_groups es)
+few_groups (Clip bits ∷ es) = omega (arith, few_groups es)
 
 -- ---- the groups of a plan
 

@@ -4,7 +4,7 @@ use Rattle.std.specs.Prelude.{nat_eq, max}
 use Rattle.std.proofs.lemmas.Bool.{eqb-true, eq-eqb, cases_lt}
 use Rattle.std.proofs.Math.Nat.{le-max_right, max-le, max-eq_left}
 use Rattle.mr_values.specs.declared.plan.Element.{Element}
-use Rattle.mr_values.specs.Timing.{Group, Fir, DownCic, UpCic, Rounding, Stream, after, groups, input}
+use Rattle.mr_values.specs.Timing.{Group, Fir, DownCic, UpCic, Rounding, Clipping, Stream, after, groups, input}
 use Rattle.plan_check.specs.Groups.{size_of}
 use Rattle.stage_law.specs.Registers.{HeldSum, StageRegister, Telling, bits_for, bits_of, needing}
 use Rattle.verilog_tree.specs.Tree.{Design}
@@ -77,6 +77,7 @@ module _ (w : ℕ) (elements : List Element) where
   of_groups : (number taken : ℕ) (s : Stream) (gs : List Group) (i : ℕ) (r : LinearRegister) → slice_get (linear_from w elements number taken s gs) i ≡ Some r → IsSized r
   of_groups number taken s [] i r at = of_stage 0 (record { elements = elements; period = s.period; offset = s.offset }) (output_register ∷ []) i r at
   of_groups number taken s (Rounding shift mode ∷ gs) i r at = absurd (cc)
+  of_groups number taken s (Clipping bits ∷ gs) i r at = absurd (cc)
   of_groups number taken s (Fir up f down ∷ gs) i r at = of_group number taken s (Fir up f down) gs (of_groups (number + 1) (taken + size_of (Fir up f down)) (after (Fir up f down) s) gs) i r at
   of_groups number taken s (DownCic factor stages delay ∷ gs) i r at =
       of_group number taken s (DownCic factor stages delay) gs (of_groups (number + 1) (taken + size_of (DownCic factor stages delay)) (after (DownCic factor stages delay) s) gs) i r at

@@ -4,7 +4,7 @@ use Rattle.std.specs.Prelude.{bytes_eq}
 use Rattle.std.specs.List.{position_or_len}
 use Rattle.mr_values.specs.declared.plan.Element.{Element}
 use Rattle.mr_values.specs.Sequence.{samples, filter}
-use Rattle.mr_values.specs.Timing.{Group, Fir, DownCic, UpCic, Rounding, groups}
+use Rattle.mr_values.specs.Timing.{Group, Fir, DownCic, UpCic, Rounding, Clipping, groups}
 use Rattle.mr_values.specs.Value.{chain}
 use Rattle.net_graph.specs.declared.cell.Cell.{Cell}
 use Rattle.net_graph.specs.declared.cell.Node.{Node}
@@ -44,6 +44,7 @@ use Rattle.filter_text.proofs.RegisterGroups.{register_of_group}
 linear_place : (gs : List Group) (n : ℕ) → is_linear_group gs n ≡ true → n < length gs
 linear_place [] n is = absurd (cc)
 linear_place (Rounding shift mode ∷ gs) n is = absurd (cc)
+linear_place (Clipping bits ∷ gs) n is = absurd (cc)
 linear_place (Fir up f down ∷ gs) zero is = omega arith
 linear_place (DownCic factor stages delay ∷ gs) zero is = omega arith
 linear_place (UpCic factor stages delay ∷ gs) zero is = omega arith

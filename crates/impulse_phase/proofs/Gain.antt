@@ -3,7 +3,7 @@ use Rattle.std.proofs.Common.{◌≡◌, ℕ, zero, suc, ◌+◌, ◌-◌, ◌*�
 use Rattle.std.proofs.Math.Nat.{mul-le-mul_left, pow-suc, pow-zero, mul_comm, mul-add}
 use Rattle.std.proofs.lemmas.Int.{ints}
 use Rattle.mr_values.specs.declared.plan.Element.{Element}
-use Rattle.mr_values.specs.declared.plan.Element.TheVariants.{Up, Down, Filter, CicDown, CicUp, Round}
+use Rattle.mr_values.specs.declared.plan.Element.TheVariants.{Up, Down, Filter, CicDown, CicUp, Round, Clip}
 use Rattle.mr_values.specs.Width.{floor_quotient, floor_remainder}
 use Rattle.mr_values.specs.Sequence.{ones}
 use Rattle.mr_values.specs.Value.{size}
@@ -96,6 +96,7 @@ element-gain (Filter taps form) f gain linear h = filter-gain taps f gain h
 element-gain (CicDown factor stages delay) f gain linear h = λ n. filters-gain (size stages) (size factor * size delay) f gain h (n *ℤ pos (size factor))
 element-gain (CicUp factor stages delay) f gain linear h = filters-gain (size stages) (size factor * size delay) (through_up (size factor) f) gain (up-gain (size factor) f gain h)
 element-gain (Round shift mode) f gain linear h = absurd linear
+element-gain (Clip bits) f gain linear h = absurd linear
 
 elements-gain : (es : List Element) (f : Responses) (gain : ℕ) → AreLinear es → HasGain f gain → HasGain (through_all es f) (gain_after_all es gain)
 elements-gain [] f gain linear h = h

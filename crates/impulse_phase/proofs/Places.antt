@@ -2,7 +2,7 @@
 use Rattle.std.proofs.Common.{◌≡◌, ℕ, zero, suc, ◌*◌, ◌/◌, List, [], ◌∷◌, get_or, ℤ, pos, ◌-ℤ◌, ◌*ℤ◌, ◌≤ℤ◌, arith, refl, ◌∙◌}
 use Rattle.std.proofs.lemmas.Int.{ints}
 use Rattle.mr_values.specs.declared.plan.Element.{Element}
-use Rattle.mr_values.specs.declared.plan.Element.TheVariants.{Up, Down, Filter, CicDown, CicUp, Round}
+use Rattle.mr_values.specs.declared.plan.Element.TheVariants.{Up, Down, Filter, CicDown, CicUp, Round, Clip}
 use Rattle.mr_values.specs.Sequence.{weighted_sum, ones}
 use Rattle.mr_values.specs.Value.{size}
 use Rattle.impulse_phase.specs.Response.{Response, Responses, scaled, behind, combined, through_up, through_filters, through, through_all, direct, responses, IsLinear, AreLinear}
@@ -34,6 +34,7 @@ element-forward (CicDown factor stages delay) f linear h n =
 element-forward (CicUp factor stages delay) f linear h n =
     rw (filters-newest (size stages) (ones (size factor * size delay)) (through_up (size factor) f) (pos n)) (h (n / size factor))
 element-forward (Round shift mode) f linear h n = absurd linear
+element-forward (Clip bits) f linear h n = absurd linear
 
 elements-forward : (es : List Element) (f : Responses) → AreLinear es → ((n : ℕ) → pos 0 ≤ℤ (f (pos n)).newest) → (n : ℕ) → pos 0 ≤ℤ (through_all es f (pos n)).newest
 elements-forward [] f linear h n = h n

@@ -6,7 +6,7 @@ use Rattle.std.proofs.lemmas.Nat.{div-add-mod', mod_below}
 use Rattle.std.proofs.lemmas.Nat.Gcd.{IsGcd-from_zero, IsGcd-from_mod, mod-eq-zero_of_dvd}
 use Rattle.std.proofs.Math.Nat.{mul_left_comm}
 use Rattle.mr_values.specs.declared.plan.Element.{Element}
-use Rattle.mr_values.specs.declared.plan.Element.TheVariants.{Up, Down, Filter, CicDown, CicUp, Round}
+use Rattle.mr_values.specs.declared.plan.Element.TheVariants.{Up, Down, Filter, CicDown, CicUp, Round, Clip}
 use Rattle.mr_values.specs.Sequence.{Sequence, samples, weighted_sum, ones, up, down, filter_times}
 use Rattle.mr_values.specs.Value.{size, apply, chain, val}
 use Rattle.impulse_phase.specs.Response.{Response, Responses, respond, through_up, through_down, through_filters, through, through_all, direct, responses, HasResponses, Cycle, common_to, common, cycle_down, cycle_after, cycle_after_all, full_cycle, IsLinear, AreLinear}
@@ -69,6 +69,7 @@ element-keeps (CicUp factor stages delay) transform f p linear h =
     filters-keep (size stages) (ones (size factor * size delay)) (λ x. up (size factor) (transform x)) (through_up (size factor) f) (p.classes * size factor) p.step
     (up-keeps (size factor) transform f p.classes p.step linear h)
 element-keeps (Round shift mode) transform f p linear h = absurd linear
+element-keeps (Clip bits) transform f p linear h = absurd linear
 
 pub elements-keep : (es : List Element) (transform : Sequence → Sequence) (f : Responses) (p : Cycle) → AreLinear es → HasResponses transform f p.classes p.step
     → HasResponses (λ x. chain es (transform x)) (through_all es f) (cycle_after_all es p).classes (cycle_after_all es p).step

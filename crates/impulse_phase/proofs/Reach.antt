@@ -5,7 +5,7 @@ use Rattle.std.proofs.lemmas.Bool.{eqb-true}
 use Rattle.std.proofs.lemmas.List.{length-replicate}
 use lib.IntN.{*ℤ_comm, +ℤ_idr}
 use Rattle.mr_values.specs.declared.plan.Element.{Element}
-use Rattle.mr_values.specs.declared.plan.Element.TheVariants.{Up, Down, Filter, CicDown, CicUp, Round}
+use Rattle.mr_values.specs.declared.plan.Element.TheVariants.{Up, Down, Filter, CicDown, CicUp, Round, Clip}
 use Rattle.mr_values.specs.Width.{floor_quotient, floor_remainder}
 use Rattle.std.proofs.lemmas.Nat.{div-add-mod', mod_below}
 use Rattle.mr_values.specs.Timing.{ceil_div}
@@ -219,6 +219,7 @@ element-extent (CicUp factor stages delay) transform f q p linear law h =
     (up-keeps (size factor) transform f q.classes q.step linear law) (sym (length-replicate width (pos 1)))
     (extent-up (size factor) f p linear h)
 element-extent (Round shift mode) transform f q p linear law h = absurd linear
+element-extent (Clip bits) transform f q p linear law h = absurd linear
 
 elements-extent : (es : List Element) (transform : Sequence → Sequence) (f : Responses) (q : Cycle) (p : Extent) → AreLinear es → HasResponses transform f q.classes q.step
     → IsExtent f p → IsExtent (through_all es f) (extent_after_all es p)

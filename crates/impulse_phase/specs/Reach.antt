@@ -1,7 +1,7 @@
 -- How far back the responses of a chain reach.
 use Rattle.std.specs.Prelude.{ℕ, ◌+◌, ◌-◌, ◌*◌, ◌<◌, ◌≤◌, List, [], ◌∷◌, length, ℤ, pos, ◌+ℤ◌, ◌-ℤ◌, ◌*ℤ◌, ◌≤ℤ◌}
 use Rattle.mr_values.specs.declared.plan.Element.{Element}
-use Rattle.mr_values.specs.declared.plan.Element.TheVariants.{Up, Down, Filter, CicDown, CicUp, Round}
+use Rattle.mr_values.specs.declared.plan.Element.TheVariants.{Up, Down, Filter, CicDown, CicUp, Round, Clip}
 use Rattle.mr_values.specs.Value.{size}
 use Rattle.mr_values.specs.Timing.{ceil_div}
 use Rattle.impulse_phase.specs.Response.{Responses}
@@ -34,6 +34,7 @@ extent_after (Filter taps form) p = extent_back (length taps - 1) p
 extent_after (CicDown factor stages delay) p = extent_down (size factor) (extent_back (size stages * (size factor * size delay - 1)) p)
 extent_after (CicUp factor stages delay) p = extent_back (size stages * (size factor * size delay - 1)) (extent_up (size factor) p)
 extent_after (Round shift mode) p = p
+extent_after (Clip bits) p = p
 
 abbrev pub extent_after_all : List Element → Extent → Extent
 extent_after_all [] p = p

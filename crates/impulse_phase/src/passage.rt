@@ -46,7 +46,7 @@ impl Response {
                 let spread = self.through_up(alloc, size(*factor))?;
                 spread.through_sums(alloc, size(*stages), width)
             }
-            Element::Round { .. } => Ok(self),
+            Element::Round { .. } | Element::Clip { .. } => Ok(self),
         }
     }
 

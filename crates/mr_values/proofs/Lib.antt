@@ -2,6 +2,8 @@ pub mod Ring
 pub mod Division
 pub mod WidthLemmas
 pub mod Wrapping
+pub mod HalfEvenLemmas
+pub mod ClipLemmas
 pub mod Zeros
 pub mod Polyphase
 pub mod Plain

@@ -4,12 +4,14 @@ use Rattle.std.proofs.Math.Path.{fun_ext}
 use Rattle.std.proofs.lemmas.Int.{ints}
 use Rattle.std.proofs.lemmas.Nat.{pow_pos, pow_below}
 use Rattle.mr_values.specs.declared.plan.Element.{Element}
-use Rattle.mr_values.specs.declared.plan.Element.TheVariants.{Up, Down, Filter, CicDown, CicUp, Round}
-use Rattle.mr_values.specs.declared.plan.Mode.TheVariants.{HalfUp, Floor}
+use Rattle.mr_values.specs.declared.plan.Element.TheVariants.{Up, Down, Filter, CicDown, CicUp, Round, Clip}
+use Rattle.mr_values.specs.declared.plan.Mode.TheVariants.{HalfUp, HalfEven, Floor}
 use Rattle.mr_values.specs.Width.{floor_quotient, floor_remainder}
 use Rattle.mr_values.specs.Sequence.{Sequence, weighted_sum, up, down, filter, filter_times, ones}
 use Rattle.mr_values.specs.Value.{size, apply, chain}
 use Rattle.mr_values.proofs.Division.{floor_unique}
+use Rattle.mr_values.proofs.HalfEvenLemmas.{half_even_zero}
+use Rattle.mr_values.proofs.ClipLemmas.{clip_zero}
 
 abbrev pub zeros : Sequence
 zeros n = pos 0
@@ -49,7 +51,9 @@ apply-zeros (Filter taps form) h = filter-zeros taps
 apply-zeros (CicDown factor stages delay) h = ap (down (size factor)) (filter_times-zeros (size stages) (ones (size factor * size delay)))
 apply-zeros (CicUp factor stages delay) h = ap (filter_times (size stages) (ones (size factor * size delay))) (up-zeros (size factor)) ∙ filter_times-zeros (size stages) (ones (size factor * size delay))
 apply-zeros (Round shift HalfUp) h = fun_ext (λ n. half_rounds (size shift) h)
+apply-zeros (Round shift HalfEven) h = fun_ext (λ n. half_even_zero (size shift) h)
 apply-zeros (Round shift Floor) h = fun_ext (λ n. (floor_unique (pos 0) (pos 0) (2 ^ size shift) 0 (pow_pos (size shift)) (omega (arith, ints))).0)
+apply-zeros (Clip bits) h = fun_ext (λ n. clip_zero (size bits))
 
 abbrev pub AreRoundings : List Element → Type 0
 AreRoundings [] = Unit {0}

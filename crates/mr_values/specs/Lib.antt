@@ -1,5 +1,7 @@
 pub mod Width
 pub mod Sequence
+pub mod Rounding
+pub mod RoundingLaws
 pub mod Value
 pub mod Digit
 pub mod Timing

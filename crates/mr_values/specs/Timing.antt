@@ -1,11 +1,12 @@
 -- The groups of a plan, and at which ticks their streams stand.
 use Rattle.std.specs.Prelude.{ℕ, zero, suc, ◌+◌, ◌-◌, ◌*◌, ◌/◌, ◌^◌, ◌==◌, max, nat_le, if◌then◌else◌, List, [], ◌∷◌, length, take, sum_by, Option, None, Some, unwrap_or, ℤ, pos, negsuc, ◌+ℤ◌, ◌*ℤ◌, neg_ℤ}
 use Rattle.mr_values.specs.declared.plan.Element.{Element}
-use Rattle.mr_values.specs.declared.plan.Element.TheVariants.{Up, Down, Filter, CicDown, CicUp, Round}
+use Rattle.mr_values.specs.declared.plan.Element.TheVariants.{Up, Down, Filter, CicDown, CicUp, Round, Clip}
 use Rattle.mr_values.specs.declared.plan.Form.{Form}
 use Rattle.mr_values.specs.declared.plan.Form.TheVariants.{Parallel, Symmetric, HalfBand, Folded, Distributed}
 use Rattle.mr_values.specs.declared.plan.Mode.{Mode}
 use Rattle.mr_values.specs.Value.{size, round_value}
+use Rattle.mr_values.specs.Rounding.{clip_value}
 use Rattle.mr_values.specs.Sequence.{phase}
 use Rattle.mr_values.specs.Digit.{positive_count, negative_count, digit_count}
 
@@ -52,12 +53,13 @@ greatest count factor taps = greatest_below count factor factor taps
 
 -- ---- groups
 
--- a group: an Up, a Filter and a Down, at least one of them, or a CIC or a rounding by itself
+-- a group: an Up, a Filter and a Down, at least one of them, or a CIC, a rounding or a clipping by itself
 pub data Group : Type 0 where
   Fir : (up : Option ℕ) (filter : Option (List ℤ × Form)) (down : Option ℕ) → Group
   DownCic : (factor stages delay : ℕ) → Group
   UpCic : (factor stages delay : ℕ) → Group
   Rounding : (shift : ℕ) (mode : Mode) → Group
+  Clipping : (bits : ℕ) → Group
 
 -- An element before groups: an Up joins a group that has none, a Filter one that has neither, and a Down joins none.
 -- So each group is the longest run of one Up, one Filter and one Down in this order, as taken from the left.
@@ -77,6 +79,7 @@ groups (Down factor ∷ es) = Fir None None (Some (size factor)) ∷ groups es
 groups (CicDown factor stages delay ∷ es) = DownCic (size factor) (size stages) (size delay) ∷ groups es
 groups (CicUp factor stages delay ∷ es) = UpCic (size factor) (size stages) (size delay) ∷ groups es
 groups (Round shift mode ∷ es) = Rounding (size shift) mode ∷ groups es
+groups (Clip bits ∷ es) = Clipping (size bits) ∷ groups es
 
 -- ---- the span of a stream
 
@@ -130,12 +133,14 @@ up_factor (Fir up filter down) = unwrap_or up 1
 up_factor (DownCic factor stages delay) = 1
 up_factor (UpCic factor stages delay) = factor
 up_factor (Rounding shift mode) = 1
+up_factor (Clipping bits) = 1
 
 abbrev pub down_factor : Group → ℕ
 down_factor (Fir up filter down) = unwrap_or down 1
 down_factor (DownCic factor stages delay) = factor
 down_factor (UpCic factor stages delay) = 1
 down_factor (Rounding shift mode) = 1
+down_factor (Clipping bits) = 1
 
 -- the period after a group, from the period before it
 abbrev pub period_after : Group → ℕ → ℕ
@@ -146,6 +151,7 @@ group_delay (Fir up filter down) s = form_delay (form_of filter) (unwrap_or up 1
 group_delay (DownCic factor stages delay) s = (stages - 1) * s.period + 1 + stages
 group_delay (UpCic factor stages delay) s = stages + (stages - 1) * period_after (UpCic factor stages delay) s.period + 1
 group_delay (Rounding shift mode) s = 1
+group_delay (Clipping bits) s = 1
 
 -- the least and the greatest value after a group, from those before it
 abbrev pub low_after : Group → ℤ → ℤ → ℤ
@@ -153,12 +159,14 @@ low_after (Fir up filter down) low high = low_end (taps_of filter) low high
 low_after (DownCic factor stages delay) low high = pos ((factor * delay) ^ stages) *ℤ low
 low_after (UpCic factor stages delay) low high = pos ((factor * delay) ^ stages) *ℤ low
 low_after (Rounding shift mode) low high = round_value mode shift low
+low_after (Clipping bits) low high = clip_value bits low
 
 abbrev pub high_after : Group → ℤ → ℤ → ℤ
 high_after (Fir up filter down) low high = high_end (taps_of filter) low high
 high_after (DownCic factor stages delay) low high = pos ((factor * delay) ^ stages) *ℤ high
 high_after (UpCic factor stages delay) low high = pos ((factor * delay) ^ stages) *ℤ high
 high_after (Rounding shift mode) low high = round_value mode shift high
+high_after (Clipping bits) low high = clip_value bits high
 
 -- the stream after a group
 abbrev pub after : Group → Stream → Stream

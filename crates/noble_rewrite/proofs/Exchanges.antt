@@ -5,10 +5,10 @@ use Rattle.std.specs.Int.{IsGcd}
 use Rattle.std.proofs.lemmas.Bool.{and_parts, eqb-true}
 use Rattle.std.proofs.lemmas.Option.{same_Some}
 use Rattle.mr_values.specs.declared.plan.Element.{Element}
-use Rattle.mr_values.specs.declared.plan.Element.TheVariants.{Up, Down, Filter, CicDown, CicUp, Round}
+use Rattle.mr_values.specs.declared.plan.Element.TheVariants.{Up, Down, Filter, CicDown, CicUp, Round, Clip}
 use Rattle.mr_values.specs.declared.plan.Form.TheVariants.{Parallel}
 use Rattle.mr_values.specs.Sequence.{Sequence}
-use Rattle.mr_values.specs.Value.{size, apply}
+use Rattle.mr_values.specs.Value.{size, apply, IsFirst}
 use Rattle.mr_values.proofs.Noble.{down-up}
 use Rattle.plan_check.specs.Costs.{gcd}
 use Rattle.plan_check.proofs.Divisors.{IsGcd-gcd}
@@ -24,6 +24,7 @@ rank (Filter taps form) = 1
 rank (CicDown factor stages delay) = 1
 rank (CicUp factor stages delay) = 1
 rank (Round shift mode) = 1
+rank (Clip bits) = 1
 
 -- what an exchange of these two keeps
 pub record Keeps (e f : Element) (x : Exchange) : Type 0 where
@@ -33,6 +34,8 @@ pub record Keeps (e f : Element) (x : Exchange) : Type 0 where
   pub first_rank : rank x.first ≡ rank f
   pub second_rank : rank x.second ≡ rank e
   pub falls : rank f < rank e
+  pub first_version : IsFirst x.first
+  pub second_version : IsFirst x.second
 
 chosen : {A : Type 0} (b : Bool) (e x : A) → cond b (Some e) None ≡ Some x → (b ≡ true) × (e ≡ x)
 chosen true e x h = (refl, same_Some e x h)
@@ -56,6 +59,8 @@ filter_down-keeps taps factor x is =
       first_rank = refl;
       second_rank = refl;
       falls = omega arith;
+      first_version = tt;
+      second_version = tt;
     } in
     subst (λ (y : Exchange). Keeps (Filter taps Parallel) (Down factor) y) parts.1 kept
 
@@ -71,6 +76,8 @@ up_filter-keeps factor taps x is =
       first_rank = refl;
       second_rank = refl;
       falls = omega arith;
+      first_version = tt;
+      second_version = tt;
     } in
     subst (λ (y : Exchange). Keeps (Up factor) (Filter taps Parallel) y) parts.1 kept
 
@@ -86,6 +93,8 @@ up_down-keeps factor other x is =
       first_rank = refl;
       second_rank = refl;
       falls = omega arith;
+      first_version = tt;
+      second_version = tt;
     } in
     subst (λ (y : Exchange). Keeps (Up factor) (Down other) y) parts.1 kept
 

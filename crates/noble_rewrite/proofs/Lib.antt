@@ -2,3 +2,4 @@ mod Thin
 mod Exchanges
 mod RuleSteps
 mod TurnSteps
+mod FirstTurns

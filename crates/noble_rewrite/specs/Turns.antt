@@ -1,7 +1,7 @@
 -- Turn after turn, the leftmost pair to which a rule applies is rewritten, until there is none.
 use Rattle.std.specs.Prelude.{◌≡◌, suc, ◌≤◌, List, [], ◌∷◌, ◌++◌, length, Some, None}
 use Rattle.mr_values.specs.declared.plan.Element.{Element}
-use Rattle.mr_values.specs.declared.plan.Element.TheVariants.{Up, Down, Filter, CicDown, CicUp, Round}
+use Rattle.mr_values.specs.declared.plan.Element.TheVariants.{Up, Down, Filter, CicDown, CicUp, Round, Clip}
 use Rattle.mr_values.specs.Value.{size}
 use Rattle.noble_rewrite.specs.declared.turn.Applied.{Applied}
 use Rattle.noble_rewrite.specs.Rules.{Exchange, exchange}
@@ -42,6 +42,7 @@ HasFactor (Filter taps form) = Unit {0}
 HasFactor (CicDown factor stages delay) = Unit {0}
 HasFactor (CicUp factor stages delay) = Unit {0}
 HasFactor (Round shift mode) = Unit {0}
+HasFactor (Clip bits) = Unit {0}
 
 abbrev pub HaveFactors : List Element → Type 0
 HaveFactors [] = Unit {0}

@@ -47,5 +47,6 @@ fn copy(alloc: Global, element: &Element) -> Result<Element, Memory>
             shift: *shift,
             mode: *mode,
         },
+        Element::Clip { bits } => Element::Clip { bits: *bits },
     })
 }

@@ -1,7 +1,7 @@
 // All turns of the noble identities.
 ghost use Rattle.std.specs.Prelude.{◌≡◌, ◌<◌, ◌^◌, length, IfOk};
 ghost use Rattle.mr_values.specs.Sequence.{Sequence};
-ghost use Rattle.mr_values.specs.Value.{chain};
+ghost use Rattle.mr_values.specs.Value.{chain, AreFirst};
 ghost use Rattle.noble_rewrite.specs.Turns.{IsSettled, LeadsTo, HaveFactors};
 
 use crate::copies::copies;
@@ -22,6 +22,7 @@ pub fn rewrite(alloc: Global, elements: &[Element]) -> Result<Rewritten, Memory>
     requires { length elements.now < 2 ^ 32 }
     ensures turns { IfOk result (λ rewritten. LeadsTo elements.now rewritten.applied.items rewritten.elements) }
     ensures ended { IfOk result (λ rewritten. IsSettled rewritten.elements) }
+    ensures first { IfOk result (λ rewritten. AreFirst elements.now → AreFirst rewritten.elements) }
     ensures value { IfOk result (λ rewritten. HaveFactors elements.now → (x : Sequence) → chain rewritten.elements x ≡ chain elements.now x) }
 {
     let mut elements = copies(alloc, elements)?;

@@ -3,11 +3,11 @@ use Rattle.std.proofs.Common.{◌≡◌, ℕ, suc, ◌+◌, ◌≤◌, refl, ap,
 use Rattle.std.specs.Prelude.{All, unwrap_or}
 use Rattle.std.proofs.lemmas.Int.{ints}
 use Rattle.mr_values.specs.declared.plan.Element.{Element}
-use Rattle.mr_values.specs.declared.plan.Element.TheVariants.{Up, Down, Filter, CicDown, CicUp, Round}
+use Rattle.mr_values.specs.declared.plan.Element.TheVariants.{Up, Down, Filter, CicDown, CicUp, Round, Clip}
 use Rattle.mr_values.specs.declared.plan.Form.{Form}
 use Rattle.mr_values.specs.declared.plan.Mode.{Mode}
 use Rattle.mr_values.specs.Value.{size, IsWithinLimits, IsFromOne, AreTaps, IsForm}
-use Rattle.mr_values.specs.Timing.{Group, Fir, DownCic, UpCic, Rounding, groups, join_up, join_filter, taps_of, form_of}
+use Rattle.mr_values.specs.Timing.{Group, Fir, DownCic, UpCic, Rounding, Clipping, groups, join_up, join_filter, taps_of, form_of}
 use Rattle.plan_check.specs.Groups.{present, size_of, leading_up, past_up, leading_filter, past_filter, leading_down, past_down, BeginsFir, IsCic, IsSplit, IsFactor}
 
 -- ---- what joins
@@ -21,6 +21,7 @@ join_filter-filter taps others form other (Fir (Some up) (Some f) down ∷ gs) =
 join_filter-filter taps others form other (DownCic factor stages delay ∷ gs) = refl
 join_filter-filter taps others form other (UpCic factor stages delay ∷ gs) = refl
 join_filter-filter taps others form other (Rounding shift mode ∷ gs) = refl
+join_filter-filter taps others form other (Clipping bits ∷ gs) = refl
 
 join_filter-up : (taps : List ℤ) (form : Form) (factor : ℕ) (gs : List Group) → join_filter taps form (join_up factor gs) ≡ Fir None (Some (taps, form)) None ∷ join_up factor gs
 join_filter-up taps form factor [] = refl
@@ -29,6 +30,7 @@ join_filter-up taps form factor (Fir (Some up) filter down ∷ gs) = refl
 join_filter-up taps form factor (DownCic other stages delay ∷ gs) = refl
 join_filter-up taps form factor (UpCic other stages delay ∷ gs) = refl
 join_filter-up taps form factor (Rounding shift mode ∷ gs) = refl
+join_filter-up taps form factor (Clipping bits ∷ gs) = refl
 
 join_up-up : (factor other : ℕ) (gs : List Group) → join_up factor (join_up other gs) ≡ Fir (Some factor) None None ∷ join_up other gs
 join_up-up factor other [] = refl
@@ -37,6 +39,7 @@ join_up-up factor other (Fir (Some up) filter down ∷ gs) = refl
 join_up-up factor other (DownCic third stages delay ∷ gs) = refl
 join_up-up factor other (UpCic third stages delay ∷ gs) = refl
 join_up-up factor other (Rounding shift mode ∷ gs) = refl
+join_up-up factor other (Clipping bits ∷ gs) = refl
 
 -- a Filter, and the Down after it
 join_filter-groups : (taps : List ℤ) (form : Form) (es : List Element) → join_filter taps form (groups es) ≡ Fir None (Some (taps, form)) (leading_down es) ∷ groups (past_down es)
@@ -47,6 +50,7 @@ join_filter-groups taps form (Filter others other ∷ es) = join_filter-filter t
 join_filter-groups taps form (CicDown factor stages delay ∷ es) = refl
 join_filter-groups taps form (CicUp factor stages delay ∷ es) = refl
 join_filter-groups taps form (Round shift mode ∷ es) = refl
+join_filter-groups taps form (Clip bits ∷ es) = refl
 
 -- an Up, and the Filter and the Down after it
 join_up-groups : (factor : ℕ) (es : List Element) → join_up factor (groups es) ≡ Fir (Some factor) (leading_filter es) (leading_down (past_filter es)) ∷ groups (past_down (past_filter es))
@@ -57,6 +61,7 @@ join_up-groups factor (Filter taps form ∷ es) = ap (join_up factor) (join_filt
 join_up-groups factor (CicDown other stages delay ∷ es) = refl
 join_up-groups factor (CicUp other stages delay ∷ es) = refl
 join_up-groups factor (Round shift mode ∷ es) = refl
+join_up-groups factor (Clip bits ∷ es) = refl
 
 abbrev pub fir_of : List Element → Group
 fir_of es = Fir (leading_up es) (leading_filter (past_up es)) (leading_down (past_filter (past_up es)))
@@ -72,6 +77,7 @@ groups-fir (Down factor ∷ es) h = refl
 groups-fir (CicDown factor stages delay ∷ es) h = absurd h
 groups-fir (CicUp factor stages delay ∷ es) h = absurd h
 groups-fir (Round shift mode ∷ es) h = absurd h
+groups-fir (Clip bits ∷ es) h = absurd h
 
 -- ---- how many elements
 
@@ -83,6 +89,7 @@ length-past_up (Filter taps form ∷ es) = omega arith
 length-past_up (CicDown factor stages delay ∷ es) = omega arith
 length-past_up (CicUp factor stages delay ∷ es) = omega arith
 length-past_up (Round shift mode ∷ es) = omega arith
+length-past_up (Clip bits ∷ es) = omega arith
 
 length-past_filter : (es : List Element) → length es ≡ present (leading_filter es) + length (past_filter es)
 length-past_filter [] = refl
@@ -92,6 +99,7 @@ length-past_filter (Filter taps form ∷ es) = omega arith
 length-past_filter (CicDown factor stages delay ∷ es) = omega arith
 length-past_filter (CicUp factor stages delay ∷ es) = omega arith
 length-past_filter (Round shift mode ∷ es) = omega arith
+length-past_filter (Clip bits ∷ es) = omega arith
 
 length-past_down : (es : List Element) → length es ≡ present (leading_down es) + length (past_down es)
 length-past_down [] = refl
@@ -101,6 +109,7 @@ length-past_down (Filter taps form ∷ es) = omega arith
 length-past_down (CicDown factor stages delay ∷ es) = omega arith
 length-past_down (CicUp factor stages delay ∷ es) = omega arith
 length-past_down (Round shift mode ∷ es) = omega arith
+length-past_down (Clip bits ∷ es) = omega arith
 
 some-fir : (es : List Element) → BeginsFir es → 1 ≤ size_of (fir_of es)
 some-fir [] h = absurd h
@@ -110,6 +119,7 @@ some-fir (Down factor ∷ es) h = omega arith
 some-fir (CicDown factor stages delay ∷ es) h = absurd h
 some-fir (CicUp factor stages delay ∷ es) h = absurd h
 some-fir (Round shift mode ∷ es) h = absurd h
+some-fir (Clip bits ∷ es) h = absurd h
 
 -- ---- limits
 
@@ -135,6 +145,7 @@ limits-past_up (Filter taps form ∷ es) h = h
 limits-past_up (CicDown factor stages delay ∷ es) h = h
 limits-past_up (CicUp factor stages delay ∷ es) h = h
 limits-past_up (Round shift mode ∷ es) h = h
+limits-past_up (Clip bits ∷ es) h = h
 
 pub limits-past_filter : (es : List Element) → All IsWithinLimits es → All IsWithinLimits (past_filter es)
 limits-past_filter [] h = h
@@ -144,6 +155,7 @@ limits-past_filter (Filter taps form ∷ es) h = tail_limits (Filter taps form) 
 limits-past_filter (CicDown factor stages delay ∷ es) h = h
 limits-past_filter (CicUp factor stages delay ∷ es) h = h
 limits-past_filter (Round shift mode ∷ es) h = h
+limits-past_filter (Clip bits ∷ es) h = h
 
 limits-past_down : (es : List Element) → All IsWithinLimits es → All IsWithinLimits (past_down es)
 limits-past_down [] h = h
@@ -153,6 +165,7 @@ limits-past_down (Filter taps form ∷ es) h = h
 limits-past_down (CicDown factor stages delay ∷ es) h = h
 limits-past_down (CicUp factor stages delay ∷ es) h = h
 limits-past_down (Round shift mode ∷ es) h = h
+limits-past_down (Clip bits ∷ es) h = h
 
 one_factor : IsFactor 1
 one_factor = (omega arith, omega arith)
@@ -165,6 +178,7 @@ factor-up (Filter taps form ∷ es) h = one_factor
 factor-up (CicDown factor stages delay ∷ es) h = one_factor
 factor-up (CicUp factor stages delay ∷ es) h = one_factor
 factor-up (Round shift mode ∷ es) h = one_factor
+factor-up (Clip bits ∷ es) h = one_factor
 
 factor-down : (es : List Element) → All IsWithinLimits es → IsFactor (unwrap_or (leading_down es) 1)
 factor-down [] h = one_factor
@@ -174,6 +188,7 @@ factor-down (Filter taps form ∷ es) h = one_factor
 factor-down (CicDown factor stages delay ∷ es) h = one_factor
 factor-down (CicUp factor stages delay ∷ es) h = one_factor
 factor-down (Round shift mode ∷ es) h = one_factor
+factor-down (Clip bits ∷ es) h = one_factor
 
 one_tap : AreTaps (pos 1 ∷ [])
 one_tap = (omega arith, omega arith, λ k d below. at k d below)
@@ -193,6 +208,7 @@ filtered (Filter taps form ∷ es) h = head_limits (Filter taps form) es h
 filtered (CicDown factor stages delay ∷ es) h = (one_tap, tt)
 filtered (CicUp factor stages delay ∷ es) h = (one_tap, tt)
 filtered (Round shift mode ∷ es) h = (one_tap, tt)
+filtered (Clip bits ∷ es) h = (one_tap, tt)
 
 -- ---- splits
 
@@ -248,6 +264,19 @@ IsSplit-round shift mode es h = record {
   limits = tail_limits (Round shift mode) es h;
 }
 
+pub IsSplit-clip : (bits : ℤ) (es : List Element) → All IsWithinLimits (Clip bits ∷ es) → IsSplit (Clip bits ∷ es) (Clipping (size bits)) es
+IsSplit-clip bits es h = record {
+  parts = refl;
+  size = omega arith;
+  some = omega arith;
+  within = size_between bits (head_limits (Clip bits) es h);
+  limits = tail_limits (Clip bits) es h;
+}
+  where
+    size_between : (z : ℤ) → (pos 2 ≤ℤ z) × (z ≤ℤ pos 64) → (2 ≤ size z) × (size z ≤ 64)
+    size_between (pos n) within = (omega (arith, ints, within.0), omega (arith, ints, within.1))
+    size_between (negsuc n) within = absurd (omega (arith, ints, within.0))
+
 -- the same, from what a look at the first element tells
 pub split-cic_down : (es : List Element) (e : Element) (rest : List Element) (factor stages delay : ℤ) (f s d : ℕ) → es ≡ e ∷ rest → e ≡ CicDown factor stages delay → f ≡ size factor → s ≡ size stages → d ≡ size delay → All IsWithinLimits es → IsSplit es (DownCic f s d) rest
 split-cic_down es e rest factor stages delay f s d is first isf iss isd h = rw (is, first, isf, iss, isd) (IsSplit-cic_down factor stages delay rest (rw (is, first) at h))
@@ -257,3 +286,6 @@ split-cic_up es e rest factor stages delay f s d is first isf iss isd h = rw (is
 
 pub split-round : (es : List Element) (e : Element) (rest : List Element) (shift : ℤ) (mode : Mode) (n : ℕ) → es ≡ e ∷ rest → e ≡ Round shift mode → n ≡ size shift → All IsWithinLimits es → IsSplit es (Rounding n mode) rest
 split-round es e rest shift mode n is first isn h = rw (is, first, isn) (IsSplit-round shift mode rest (rw (is, first) at h))
+
+pub split-clip : (es : List Element) (e : Element) (rest : List Element) (bits : ℤ) (n : ℕ) → es ≡ e ∷ rest → e ≡ Clip bits → n ≡ size bits → All IsWithinLimits es → IsSplit es (Clipping n) rest
+split-clip es e rest bits n is first isn h = rw (is, first, isn) (IsSplit-clip bits rest (rw (is, first) at h))

@@ -3,13 +3,13 @@ use Rattle.std.proofs.Common.{◌≡◌, ℕ, zero, suc, ◌^◌, arith, List, [
 use Rattle.std.specs.Prelude.{All}
 use Rattle.std.proofs.lemmas.Int.{ints}
 use Rattle.mr_values.specs.declared.plan.Element.{Element}
-use Rattle.mr_values.specs.declared.plan.Element.TheVariants.{Up, Down, Filter, CicDown, CicUp, Round}
+use Rattle.mr_values.specs.declared.plan.Element.TheVariants.{Up, Down, Filter, CicDown, CicUp, Round, Clip}
 use Rattle.mr_values.specs.declared.plan.Form.{Form}
 use Rattle.mr_values.specs.declared.plan.Form.TheVariants.{Parallel, Symmetric, HalfBand, Folded, Distributed}
 use Rattle.mr_values.specs.declared.plan.Plan.{Plan}
 use Rattle.mr_values.specs.Value.{IsFromOne, IsForm, IsWithinLimits}
 use Rattle.plan_check.specs.declared.fault.LimitWhich.{LimitWhich}
-use Rattle.plan_check.specs.declared.fault.LimitWhich.TheVariants.{Width, Ticks, Elements, Factor, Stages, Delay, Taps, Tap, Slots, Group, Shift}
+use Rattle.plan_check.specs.declared.fault.LimitWhich.TheVariants.{Width, Ticks, Elements, Factor, Stages, Delay, Taps, Tap, Slots, Group, Shift, Bits}
 use Rattle.plan_check.specs.Limits.{limit_test, taps_test, form_test, cic_test, element_test, elements_test, limits_test, HasLimits}
 use Rattle.plan_check.proofs.Options.{none_of}
 
@@ -48,6 +48,7 @@ element_passes element (Filter taps form) h =
 element_passes element (CicDown factor stages delay) h = cic_passes element factor stages delay h
 element_passes element (CicUp factor stages delay) h = cic_passes element factor stages delay h
 element_passes element (Round shift mode) h = limit_passes element Shift shift _ _ h
+element_passes element (Clip bits) h = limit_passes element Bits bits _ _ h
 
 elements_pass : (first : ℕ) (es : List Element) → elements_test first es ≡ None → All IsWithinLimits es
 elements_pass first [] h k d below = absurd (omega arith)

@@ -1,16 +1,19 @@
 -- No value of a plan whose peak and periods pass their tests is too great for 128 bits.
-use Rattle.std.proofs.Common.{◌≡◌, ℕ, zero, suc, ◌+◌, ◌-◌, ◌*◌, ◌/◌, ◌^◌, ◌<◌, ◌≤◌, max, refl, arith, subst, List, [], ◌∷◌, ℤ, pos, negsuc, neg_ℤ, ◌+ℤ◌, ◌*ℤ◌, None}
+use Rattle.std.proofs.Common.{◌≡◌, ℕ, zero, suc, ◌+◌, ◌-◌, ◌*◌, ◌/◌, ◌^◌, ◌<◌, ◌≤◌, max, min, refl, arith, subst, List, [], ◌∷◌, ℤ, pos, negsuc, neg_ℤ, ◌+ℤ◌, ◌*ℤ◌, None}
 use Rattle.std.specs.Prelude.{unsigned_abs}
 use Rattle.std.proofs.lemmas.Int.{ints, unsigned_abs-mul}
 use Rattle.std.proofs.lemmas.Nat.{pow_pos}
 use Rattle.std.proofs.Math.Nat.{mul-le-mul_left, add-div_right, div-mul-le_self, pow-le-pow_right, div-eq_of_lt}
 use Rattle.std.proofs.lemmas.Nat.{le-div}
 use Rattle.mr_values.specs.declared.plan.Mode.{Mode}
-use Rattle.mr_values.specs.declared.plan.Mode.TheVariants.{HalfUp, Floor}
+use Rattle.mr_values.specs.declared.plan.Mode.TheVariants.{HalfUp, HalfEven, Floor}
 use Rattle.mr_values.specs.Value.{round_value}
 use Rattle.mr_values.specs.Width.{floor_quotient}
-use Rattle.mr_values.specs.Timing.{Group, Fir, DownCic, UpCic, Rounding, taps_of, least_term, low_end, high_end, low_after, high_after, period_after, input}
+use Rattle.mr_values.specs.Timing.{Group, Fir, DownCic, UpCic, Rounding, Clipping, taps_of, least_term, low_end, high_end, low_after, high_after, period_after, input}
+use Rattle.mr_values.specs.Rounding.{clip_value}
 use Rattle.mr_values.proofs.Division.{pow_halves}
+use Rattle.mr_values.proofs.HalfEvenLemmas.{half_even_peak}
+use Rattle.mr_values.proofs.ClipLemmas.{clip_small}
 use Rattle.plan_check.specs.Groups.{size_of, first_failing, IsGroup}
 use Rattle.plan_check.specs.Amounts.{magnitude, gain, round_peak, peak_after, peak_test, rate_test}
 use Rattle.plan_check.specs.Accepted.{peaks_test, rates_test}
@@ -111,7 +114,11 @@ half-within d half peak (negsuc n) some two h = at (half - suc n) (suc n - half)
 
 round-within : (mode : Mode) (shift peak : ℕ) (z : ℤ) → 1 ≤ shift → unsigned_abs z ≤ peak → unsigned_abs (round_value mode shift z) ≤ round_peak mode shift peak
 round-within HalfUp shift peak z some h = half-within (2 ^ shift) (2 ^ (shift - 1)) peak z (pow_pos (shift - 1)) (pow_halves shift some) h
+round-within HalfEven shift peak z some h = half_even_peak shift peak z some h
 round-within Floor shift peak z some h = floor-within (2 ^ shift) peak (peak + (2 ^ shift - 1)) z (pow_pos shift) h (omega arith)
+
+clip-within : (bits peak : ℕ) (z : ℤ) → unsigned_abs z ≤ peak → unsigned_abs (clip_value bits z) ≤ min peak (2 ^ (bits - 1))
+clip-within bits peak z h = omega (arith, clip_small bits z)
 
 -- a rounding's shift is at least 1
 abbrev pub HasShift : Group → Type 0
@@ -119,12 +126,14 @@ HasShift (Fir up filter down) = Unit {0}
 HasShift (DownCic factor stages delay) = Unit {0}
 HasShift (UpCic factor stages delay) = Unit {0}
 HasShift (Rounding shift mode) = 1 ≤ shift
+HasShift (Clipping bits) = Unit {0}
 
 has_shift : (g : Group) → IsGroup g → HasShift g
 has_shift (Fir up filter down) h = tt
 has_shift (DownCic factor stages delay) h = tt
 has_shift (UpCic factor stages delay) h = tt
 has_shift (Rounding shift mode) h = h.0
+has_shift (Clipping bits) h = tt
 
 -- the values after a group
 pub within-after : (g : Group) (peak : ℕ) (low high : ℤ) → HasShift g → IsWithin peak low high → IsWithin (peak_after g peak) (low_after g low high) (high_after g low high)
@@ -144,6 +153,10 @@ within-after (Rounding shift mode) peak low high limits h = record {
   low_within = round-within mode shift peak low limits h.low_within;
   high_within = round-within mode shift peak high limits h.high_within;
 }
+within-after (Clipping bits) peak low high limits h = record {
+  low_within = clip-within bits peak low h.low_within;
+  high_within = clip-within bits peak high h.high_within;
+}
 
 -- ---- a walk over the groups
 
@@ -162,6 +175,7 @@ gain-fits (Fir up filter down) peak m h p q = omega (arith, mul-le-mul_left (mag
 gain-fits (DownCic factor stages delay) peak m h p q = omega (arith, mul-le-mul_left ((factor * delay) ^ stages) h)
 gain-fits (UpCic factor stages delay) peak m h p q = omega (arith, mul-le-mul_left ((factor * delay) ^ stages) h)
 gain-fits (Rounding shift mode) peak m h p q = omega arith
+gain-fits (Clipping bits) peak m h p q = omega arith
 
 pub narrow_gain : (g : Group) (gs all : List Group) (low high : ℤ) → all ≡ g ∷ gs → IsNarrow all low high → gain g * max (unsigned_abs low) (unsigned_abs high) ≤ 2 ^ 125
 narrow_gain g gs all low high e h =

@@ -3,7 +3,7 @@ use Rattle.std.proofs.Common.{◌≡◌, ℕ, zero, suc, ◌+◌, ◌-◌, ◌*�
 use native.Mathlib.Nat.{pow-le-pow_left, pow-le-pow_right, mul-le-mul_left}
 use Rattle.std.proofs.lemmas.Nat.{one_shl, pow-add, pow_pos}
 use Rattle.mr_values.specs.declared.plan.Mode.{Mode}
-use Rattle.mr_values.specs.declared.plan.Mode.TheVariants.{HalfUp, Floor}
+use Rattle.mr_values.specs.declared.plan.Mode.TheVariants.{HalfUp, HalfEven, Floor}
 use Rattle.plan_check.specs.Groups.{IsCic}
 use Rattle.plan_check.specs.Amounts.{rises, falls, magnitude, round_error}
 
@@ -31,6 +31,7 @@ power_shift k h = one_shl k 128 (omega arith)
 -- what one rounding is off, at a scale
 round_error_low : (mode : Mode) (shift : ℕ) → 1 ≤ shift → 2 ^ (shift - 1) ≤ round_error mode shift
 round_error_low HalfUp shift h = omega arith
+round_error_low HalfEven shift h = omega arith
 round_error_low Floor zero h = absurd (omega arith)
 round_error_low Floor (suc k) h =
     let e : suc k - 1 ≡ k = omega arith in
@@ -41,6 +42,7 @@ round_error_low Floor (suc k) h =
 
 round_error_high : (mode : Mode) (shift : ℕ) → 1 ≤ shift → round_error mode shift ≤ 2 ^ shift
 round_error_high HalfUp shift h = let some : 0 < 2 = lit< tt in pow-le-pow_right some (omega arith)
+round_error_high HalfEven shift h = let some : 0 < 2 = lit< tt in pow-le-pow_right some (omega arith)
 round_error_high Floor shift h = omega arith
 
 pub rounding_large : (scale shift : ℕ) (mode : Mode) → 126 < scale + shift → 1 ≤ shift → 2 ^ 125 < 2 ^ scale * round_error mode shift

@@ -1,9 +1,9 @@
 -- How great the values of a plan and their rounding errors become.
 -- Crochiere and Rabiner, Multirate Digital Signal Processing, 2.3; Hogenauer 1981, II (the gain of a CIC).
-use Rattle.std.specs.Prelude.{ℕ, ◌+◌, ◌-◌, ◌*◌, ◌/◌, ◌^◌, List, [], ◌∷◌, ℤ, pos, negsuc, unsigned_abs, Option, None, Some, nat_le, ◌==◌, ◌%◌, if◌then◌else◌}
+use Rattle.std.specs.Prelude.{ℕ, ◌+◌, ◌-◌, ◌*◌, ◌/◌, ◌^◌, min, List, [], ◌∷◌, ℤ, pos, negsuc, unsigned_abs, Option, None, Some, nat_le, ◌==◌, ◌%◌, if◌then◌else◌}
 use Rattle.mr_values.specs.declared.plan.Mode.{Mode}
-use Rattle.mr_values.specs.declared.plan.Mode.TheVariants.{HalfUp, Floor}
-use Rattle.mr_values.specs.Timing.{Group, Fir, DownCic, UpCic, Rounding, taps_of, ceil_div, up_factor, down_factor, period_after}
+use Rattle.mr_values.specs.declared.plan.Mode.TheVariants.{HalfUp, HalfEven, Floor}
+use Rattle.mr_values.specs.Timing.{Group, Fir, DownCic, UpCic, Rounding, Clipping, taps_of, ceil_div, up_factor, down_factor, period_after}
 use Rattle.plan_check.specs.declared.fault.PlanFault.{PlanFault}
 use Rattle.plan_check.specs.declared.fault.PlanFault.TheVariants.{RateNotWhole, PeriodOver, TooWide, BoundTooWide}
 use Rattle.plan_check.specs.Groups.{last_of, middle_of}
@@ -35,15 +35,17 @@ abbrev pub magnitude : List ℤ → ℕ
 magnitude [] = 0
 magnitude (c ∷ cs) = unsigned_abs c + magnitude cs
 
--- how much a group can magnify; a rounding magnifies nothing
+-- how much a group can magnify; a rounding and a clipping magnify nothing
 abbrev pub gain : Group → ℕ
 gain (Fir up filter down) = magnitude (taps_of filter)
 gain (DownCic factor stages delay) = (factor * delay) ^ stages
 gain (UpCic factor stages delay) = (factor * delay) ^ stages
 gain (Rounding shift mode) = 1
+gain (Clipping bits) = 1
 
 abbrev pub round_peak : Mode → ℕ → ℕ → ℕ
 round_peak HalfUp shift peak = (peak + 2 ^ (shift - 1)) / 2 ^ shift
+round_peak HalfEven shift peak = (peak + 2 ^ (shift - 1)) / 2 ^ shift
 round_peak Floor shift peak = ceil_div peak (2 ^ shift)
 
 abbrev pub peak_after : Group → ℕ → ℕ
@@ -51,6 +53,7 @@ peak_after (Fir up filter down) peak = peak * gain (Fir up filter down)
 peak_after (DownCic factor stages delay) peak = peak * gain (DownCic factor stages delay)
 peak_after (UpCic factor stages delay) peak = peak * gain (UpCic factor stages delay)
 peak_after (Rounding shift mode) peak = round_peak mode shift peak
+peak_after (Clipping bits) peak = min peak (2 ^ (bits - 1))
 
 -- a group without a Filter keeps the peak
 abbrev pub peak_test : ℕ → ℕ → Group → Option PlanFault
@@ -65,6 +68,7 @@ pub record RoundingError : Type 0 where
 -- how far one rounding is off
 abbrev pub round_error : Mode → ℕ → ℕ
 round_error HalfUp shift = 2 ^ (shift - 1)
+round_error HalfEven shift = 2 ^ (shift - 1)
 round_error Floor shift = 2 ^ shift - 1
 
 abbrev pub error_after : Group → RoundingError → RoundingError
@@ -72,6 +76,7 @@ error_after (Fir up filter down) e = record { bound = e.bound * gain (Fir up fil
 error_after (DownCic factor stages delay) e = record { bound = e.bound * gain (DownCic factor stages delay); shift = e.shift }
 error_after (UpCic factor stages delay) e = record { bound = e.bound * gain (UpCic factor stages delay); shift = e.shift }
 error_after (Rounding shift mode) e = record { bound = e.bound + 2 ^ e.shift * round_error mode shift; shift = e.shift + shift }
+error_after (Clipping bits) e = e
 
 abbrev pub error_after_all : List Group → RoundingError → RoundingError
 error_after_all [] e = e

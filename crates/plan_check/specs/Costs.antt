@@ -5,7 +5,7 @@ use Rattle.std.specs.Option.{option_or, option_map}
 use Rattle.mr_values.specs.declared.plan.Form.{Form}
 use Rattle.mr_values.specs.declared.plan.Form.TheVariants.{Parallel, Symmetric, HalfBand, Folded, Distributed}
 use Rattle.mr_values.specs.Value.{size}
-use Rattle.mr_values.specs.Timing.{Group, Fir, DownCic, UpCic, Rounding, Stream, taps_of, form_of, terms, ceil_div, up_factor, down_factor, period_after, group_delay, after}
+use Rattle.mr_values.specs.Timing.{Group, Fir, DownCic, UpCic, Rounding, Clipping, Stream, taps_of, form_of, terms, ceil_div, up_factor, down_factor, period_after, group_delay, after}
 use Rattle.plan_check.specs.declared.fault.CostWhich.{CostWhich}
 use Rattle.plan_check.specs.declared.fault.CostWhich.TheVariants.{Terms, Latency, Work, Response, Cycle}
 use Rattle.plan_check.specs.declared.fault.PlanFault.{PlanFault}
@@ -26,6 +26,7 @@ terms_of (Fir up filter down) = form_terms (form_of filter) (taps_of filter)
 terms_of (DownCic factor stages delay) = 2 * stages
 terms_of (UpCic factor stages delay) = 2 * stages
 terms_of (Rounding shift mode) = 1
+terms_of (Clipping bits) = 1
 
 -- ---- classes and reach
 
@@ -49,6 +50,7 @@ memory_of (Fir up filter down) = length (taps_of filter) - 1
 memory_of (DownCic factor stages delay) = stages * (factor * delay - 1)
 memory_of (UpCic factor stages delay) = stages * (factor * delay - 1)
 memory_of (Rounding shift mode) = 0
+memory_of (Clipping bits) = 0
 
 abbrev pub classes_after : Group → ℕ → ℕ
 classes_after g classes = classes * up_factor g / gcd (classes * up_factor g) (down_factor g)
@@ -61,7 +63,7 @@ spread_after ticks g period s = record {
 
 -- ---- the tests
 
--- what the groups so far add up to. There is no spread after a rounding, whose values are no sums of samples
+-- what the groups so far add up to. There is no spread after a rounding or a clipping, whose values are no sums of samples
 pub record Tally : Type 0 where
   pub stream : Stream
   pub terms : ℕ
@@ -72,6 +74,7 @@ linear_spread (Fir up filter down) s = s
 linear_spread (DownCic factor stages delay) s = s
 linear_spread (UpCic factor stages delay) s = s
 linear_spread (Rounding shift mode) s = None
+linear_spread (Clipping bits) s = None
 
 abbrev pub tally_after : ℕ → Group → Tally → Tally
 tally_after ticks g t = record {

@@ -3,7 +3,7 @@ use Rattle.std.specs.Prelude.{ℕ, suc, ◌-◌, ◌/◌, ◌%◌, ◌==◌, nat
 use Rattle.mr_values.specs.declared.plan.Form.{Form}
 use Rattle.mr_values.specs.declared.plan.Form.TheVariants.{Parallel, Symmetric, HalfBand, Folded, Distributed}
 use Rattle.mr_values.specs.Value.{size}
-use Rattle.mr_values.specs.Timing.{Group, Fir, DownCic, UpCic, Rounding, Stream, wide, period_after, low_after, high_after}
+use Rattle.mr_values.specs.Timing.{Group, Fir, DownCic, UpCic, Rounding, Clipping, Stream, wide, period_after, low_after, high_after}
 use Rattle.plan_check.specs.declared.fault.PlanFault.{PlanFault}
 use Rattle.plan_check.specs.declared.fault.PlanFault.TheVariants.{FormNotFit}
 use Rattle.plan_check.specs.Groups.{middle_of}
@@ -65,6 +65,7 @@ group_fits (Fir up filter down) f = filter_fits filter up down (period_after (Fi
 group_fits (DownCic factor stages delay) f = true
 group_fits (UpCic factor stages delay) f = true
 group_fits (Rounding shift mode) f = true
+group_fits (Clipping bits) f = true
 
 abbrev pub fit_test : ℕ → Flow → Group → Option PlanFault
 fit_test first f g = if group_fits g f then None else Some (FormNotFit (middle_of first g))

@@ -5,7 +5,7 @@ use Rattle.mr_values.specs.declared.plan.Element.{Element}
 use Rattle.mr_values.specs.declared.plan.Element.TheVariants.{Up, Down, Filter}
 use Rattle.mr_values.specs.declared.plan.Form.{Form}
 use Rattle.mr_values.specs.Value.{size, AreTaps, IsForm, IsWithinLimits}
-use Rattle.mr_values.specs.Timing.{Group, Fir, DownCic, UpCic, Rounding, groups, taps_of, form_of}
+use Rattle.mr_values.specs.Timing.{Group, Fir, DownCic, UpCic, Rounding, Clipping, groups, taps_of, form_of}
 use Rattle.plan_check.specs.declared.fault.PlanFault.{PlanFault}
 use Rattle.plan_check.specs.declared.group.FirFilter.{FirFilter}
 use Rattle.plan_check.specs.declared.group.PlanGroup.{PlanGroup}
@@ -21,6 +21,7 @@ group_of (parts.Fir up filter down) = Fir up (option_map filter_of filter) down
 group_of (parts.CicDown factor stages delay) = DownCic factor stages delay
 group_of (parts.CicUp factor stages delay) = UpCic factor stages delay
 group_of (parts.Round shift mode) = Rounding shift mode
+group_of (parts.Clip bits) = Clipping bits
 
 -- ---- elements
 
@@ -34,8 +35,9 @@ size_of (Fir up filter down) = present up + present filter + present down
 size_of (DownCic factor stages delay) = 1
 size_of (UpCic factor stages delay) = 1
 size_of (Rounding shift mode) = 1
+size_of (Clipping bits) = 1
 
--- the numbers of its last element, and of its Filter, CIC or Round, where its first element has the number `first`
+-- the numbers of its last element, and of its Filter, CIC, Round or Clip, where its first element has the number `first`
 abbrev pub last_of : ℕ → Group → ℕ
 last_of first g = first + size_of g - 1
 
@@ -44,6 +46,7 @@ middle_of first (Fir up filter down) = first + present up
 middle_of first (DownCic factor stages delay) = first
 middle_of first (UpCic factor stages delay) = first
 middle_of first (Rounding shift mode) = first
+middle_of first (Clipping bits) = first
 
 -- an Up, a Filter and a Down at the head of a list, and what follows them
 abbrev pub leading_up : List Element → Option ℕ
@@ -102,6 +105,7 @@ IsGroup (Fir up filter down) = IsFir (unwrap_or up 1) (taps_of filter) (form_of 
 IsGroup (DownCic factor stages delay) = IsCic factor stages delay
 IsGroup (UpCic factor stages delay) = IsCic factor stages delay
 IsGroup (Rounding shift mode) = (1 ≤ shift) × (shift ≤ 64)
+IsGroup (Clipping bits) = (2 ≤ bits) × (bits ≤ 64)
 
 -- the elements are this group and the rest
 pub record IsSplit (elements : List Element) (group : Group) (rest : List Element) : Type 0 where

@@ -2,13 +2,13 @@
 use Rattle.std.specs.Prelude.{ℕ, suc, ◌^◌, List, [], ◌∷◌, length, Option, None, Some, ◌&&◌, if◌then◌else◌, ℤ, pos, neg_ℤ, int_le, ◌≤ℤ◌, ◌≤◌, All}
 use Rattle.std.specs.Option.{option_or}
 use Rattle.mr_values.specs.declared.plan.Element.{Element}
-use Rattle.mr_values.specs.declared.plan.Element.TheVariants.{Up, Down, Filter, CicDown, CicUp, Round}
+use Rattle.mr_values.specs.declared.plan.Element.TheVariants.{Up, Down, Filter, CicDown, CicUp, Round, Clip}
 use Rattle.mr_values.specs.declared.plan.Form.{Form}
 use Rattle.mr_values.specs.declared.plan.Form.TheVariants.{Parallel, Symmetric, HalfBand, Folded, Distributed}
 use Rattle.mr_values.specs.declared.plan.Plan.{Plan}
 use Rattle.mr_values.specs.Value.{IsWithinLimits}
 use Rattle.plan_check.specs.declared.fault.LimitWhich.{LimitWhich}
-use Rattle.plan_check.specs.declared.fault.LimitWhich.TheVariants.{Width, Ticks, Elements, Factor, Stages, Delay, Taps, Tap, Slots, Group, Shift}
+use Rattle.plan_check.specs.declared.fault.LimitWhich.TheVariants.{Width, Ticks, Elements, Factor, Stages, Delay, Taps, Tap, Slots, Group, Shift, Bits}
 use Rattle.plan_check.specs.declared.fault.PlanFault.{PlanFault}
 use Rattle.plan_check.specs.declared.fault.PlanFault.TheVariants.{Limit}
 
@@ -40,6 +40,7 @@ element_test element (Filter taps form) =
 element_test element (CicDown factor stages delay) = cic_test element factor stages delay
 element_test element (CicUp factor stages delay) = cic_test element factor stages delay
 element_test element (Round shift mode) = limit_test element Shift shift (pos 1) (pos 64)
+element_test element (Clip bits) = limit_test element Bits bits (pos 2) (pos 64)
 
 -- elements are numbered from `first` on
 abbrev pub elements_test : ℕ → List Element → Option PlanFault

@@ -216,7 +216,7 @@ fn linear_past(
         × IsModest next)
         (λ fault. linear_test ticks element (group_of group.now) period (linear_spread (group_of group.now) (option_map as_spread spread)) ≡ Some fault) }
 {
-    if let PlanGroup::Round { .. } = group {
+    if let PlanGroup::Round { .. } | PlanGroup::Clip { .. } = group {
         return Ok(None);
     }
     match spread {

@@ -1,5 +1,5 @@
 // How great the values of a plan and their rounding errors become.
-ghost use Rattle.std.specs.Prelude.{◌≡◌, ◌≤◌, ◌<◌, ◌+◌, ◌-◌, ◌*◌, ◌^◌, length, All, None, Some, MatchResult, MatchOption};
+ghost use Rattle.std.specs.Prelude.{◌≡◌, ◌≤◌, ◌<◌, ◌+◌, ◌-◌, ◌*◌, ◌/◌, ◌^◌, length, All, None, Some, MatchResult, MatchOption};
 ghost use Rattle.std.specs.Result.{result_err};
 ghost use Rattle.mr_values.specs.Value.{IsWithinLimits, AreTaps};
 ghost use Rattle.mr_values.specs.Timing.{groups};
@@ -108,6 +108,7 @@ fn peak_past(group: &PlanGroup, first: u32, peak: u128) -> Result<u128, PlanFaul
 {
     let after = match *group {
         PlanGroup::Round { shift, mode } => Some(rounded_peak(peak, shift, mode)),
+        PlanGroup::Clip { bits } => Some(peak.min(1 << (bits - 1))),
         _ => peak.checked_mul(gain_of(group)),
     };
     match after {
@@ -124,11 +125,21 @@ fn rounded_peak(peak: u128, shift: u32, mode: Mode) -> u128
     requires small { peak ≤ 2 ^ 125 }
     ensures { result ≡ round_peak mode shift peak }
 {
-    let unit = 1u128 << shift;
     match mode {
-        Mode::HalfUp => (peak + (1 << (shift - 1))) / unit,
-        Mode::Floor => (peak + (unit - 1)) / unit,
+        Mode::HalfUp => nearest_peak(peak, shift),
+        Mode::HalfEven => nearest_peak(peak, shift),
+        Mode::Floor => (peak + (power_of_two(shift) - 1)) / power_of_two(shift),
     }
+}
+
+// The peak after a rounding to the nearest number.
+fn nearest_peak(peak: u128, shift: u32) -> u128
+    requires least { 1 ≤ shift }
+    requires greatest { shift ≤ 64 }
+    requires small { peak ≤ 2 ^ 125 }
+    ensures { result ≡ (peak + 2 ^ (shift - 1)) / 2 ^ shift }
+{
+    (peak + power_of_two(shift - 1)) / power_of_two(shift)
 }
 
 /// How far `2^shift` times a value is at most from the value without roundings.
@@ -169,6 +180,7 @@ fn error_past(
 {
     let after = match *group {
         PlanGroup::Round { shift, mode } => with_rounding(error, shift, mode),
+        PlanGroup::Clip { .. } => Some(error),
         _ => with_gain(error, gain_of(group)),
     };
     match after {
@@ -215,6 +227,7 @@ fn error_of_rounding(shift: u32, mode: Mode) -> u128
 {
     match mode {
         Mode::HalfUp => power_of_two(shift - 1),
+        Mode::HalfEven => power_of_two(shift - 1),
         Mode::Floor => power_of_two(shift) - 1,
     }
 }

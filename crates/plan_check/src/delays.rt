@@ -34,7 +34,7 @@ pub(crate) fn delay_of(group: &PlanGroup, flow: PlanFlow, offset: u64) -> u64
             let stages = u64::from(*stages);
             stages + (stages - 1) * period_past(group, flow.period) + 1
         }
-        PlanGroup::Fir { .. } | PlanGroup::Round { .. } => 1,
+        PlanGroup::Fir { .. } | PlanGroup::Round { .. } | PlanGroup::Clip { .. } => 1,
     }
 }
 
@@ -82,7 +82,7 @@ pub(crate) fn terms_of(group: &PlanGroup) -> u64
         PlanGroup::CicDown { stages, .. } | PlanGroup::CicUp { stages, .. } => {
             2 * u64::from(*stages)
         }
-        PlanGroup::Fir { .. } | PlanGroup::Round { .. } => 1,
+        PlanGroup::Fir { .. } | PlanGroup::Round { .. } | PlanGroup::Clip { .. } => 1,
     }
 }
 
@@ -135,7 +135,7 @@ pub(crate) fn memory_of(group: &PlanGroup) -> u64
             stages,
             delay,
         } => cic_memory(*factor, *stages, *delay),
-        PlanGroup::Fir { .. } | PlanGroup::Round { .. } => 0,
+        PlanGroup::Fir { .. } | PlanGroup::Round { .. } | PlanGroup::Clip { .. } => 0,
     }
 }
 

@@ -19,6 +19,7 @@ pub enum LimitWhich {
     Slots,
     Group,
     Shift,
+    Bits,
 }
 
 /// The cost of a plan that is too great.

@@ -9,7 +9,7 @@ ghost use Rattle.plan_check.specs.Views.{as_flow};
 
 use crate::amounts::{cic_gain, sums_of};
 use crate::group::PlanGroup;
-use mr_values::{Mode, floor_shift, power};
+use mr_values::{Mode, clipped, floor_shift, power, rounded_to_even};
 
 /// A stream: ticks from one value to the next, and its least and its greatest value.
 #[derive(Clone, Copy, Debug)]
@@ -85,6 +85,7 @@ fn end_past(group: &PlanGroup, end: i128, other: i128) -> i128
             delay,
         } => weighed(cic_gain(factor, stages, delay), end, 0, other),
         PlanGroup::Round { shift, mode } => rounded(end, shift, mode),
+        PlanGroup::Clip { bits } => clipped(end, bits as u8),
     }
 }
 
@@ -116,6 +117,7 @@ fn rounded(value: i128, shift: u32, mode: Mode) -> i128
 {
     match mode {
         Mode::HalfUp => floor_shift(value + power(shift as u8 - 1), shift as u8),
+        Mode::HalfEven => rounded_to_even(value, shift as u8),
         Mode::Floor => floor_shift(value, shift as u8),
     }
 }

@@ -14,7 +14,7 @@ pub struct FirFilter<'a> {
     pub form: Form,
 }
 
-/// A group: an Up, a Filter and a Down, at least one of them, or a CIC or a Round by itself.
+/// A group: an Up, a Filter and a Down, at least one of them, or a CIC, a Round or a Clip by itself.
 #[derive(Clone, Copy, Debug)]
 pub enum PlanGroup<'a> {
     Fir {
@@ -35,6 +35,9 @@ pub enum PlanGroup<'a> {
     Round {
         shift: u32,
         mode: Mode,
+    },
+    Clip {
+        bits: u32,
     },
 }
 
@@ -77,6 +80,7 @@ pub fn split_group(elements: &[Element]) -> Option<(PlanGroup<'_>, &[Element])>
             };
             Some((group, rest))
         }
+        Element::Clip { bits } => Some((PlanGroup::Clip { bits: whole(*bits) }, rest)),
         Element::Up { .. } | Element::Filter { .. } | Element::Down { .. } => {
             Some(split_fir(elements))
         }
@@ -154,7 +158,7 @@ impl PlanGroup<'_> {
         }
     }
 
-    /// The number of its Filter, CIC or Round, where its first element has the number `first`.
+    /// The number of its Filter, CIC, Round or Clip, where its first element has the number `first`.
     pub fn middle(&self, first: u32) -> u32
         requires { first ≤ 32 }
         ensures { result ≡ middle_of first (group_of self.now) }

@@ -61,6 +61,7 @@ fn check_element(number: u32, element: &Element) -> Result<(), PlanFault>
         Element::Round { shift, mode: _ } => {
             check_limit(number, LimitWhich::Shift, i128::from(*shift), 1, 64)
         }
+        Element::Clip { bits } => check_limit(number, LimitWhich::Bits, i128::from(*bits), 2, 64),
     }
 }
 

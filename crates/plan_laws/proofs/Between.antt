@@ -1,15 +1,18 @@
 -- Sequences between two bounds, through an element.
-use Rattle.std.proofs.Common.{◌≡◌, ◌∙◌, ℕ, zero, suc, ◌-◌, ◌^◌, ◌<◌, refl, sym, ap, arith, subst, List, [], ◌∷◌, ℤ, pos, negsuc, ◌+ℤ◌, ◌-ℤ◌, ◌*ℤ◌, ◌≤ℤ◌, Bool, true, false, cond, nat_eq}
+use Rattle.std.proofs.Common.{◌≡◌, ◌∙◌, ℕ, zero, suc, ◌-◌, ◌^◌, ◌<◌, ◌≤◌, refl, sym, ap, arith, subst, List, [], ◌∷◌, ℤ, pos, negsuc, ◌+ℤ◌, ◌-ℤ◌, ◌*ℤ◌, ◌≤ℤ◌, Bool, true, false, cond, nat_eq}
 use Rattle.std.proofs.lemmas.Int.{ints}
 use Rattle.std.proofs.lemmas.Nat.{pow_pos}
 use Rattle.std.proofs.Math.Nat.{pow-suc, pow-zero}
 use Rattle.mr_values.specs.declared.plan.Mode.{Mode}
-use Rattle.mr_values.specs.declared.plan.Mode.TheVariants.{HalfUp, Floor}
+use Rattle.mr_values.specs.declared.plan.Mode.TheVariants.{HalfUp, HalfEven, Floor}
 use Rattle.mr_values.specs.Width.{floor_quotient, floor_remainder}
 use Rattle.mr_values.specs.Sequence.{Sequence, weighted_sum, up, down, filter, filter_times, ones}
-use Rattle.mr_values.specs.Value.{round_value, round}
+use Rattle.mr_values.specs.Value.{round_value, round, clip}
+use Rattle.mr_values.specs.Rounding.{clip_value}
 use Rattle.mr_values.specs.Timing.{least_term, low_end, high_end}
 use Rattle.mr_values.proofs.Ring.{*ℤ-+ℤ, *ℤ_assoc}
+use Rattle.mr_values.proofs.HalfEvenLemmas.{half_even_rises}
+use Rattle.mr_values.proofs.ClipLemmas.{clip_rises}
 use Rattle.plan_check.proofs.Narrow.{div_mono}
 use Rattle.plan_laws.specs.Laws.{IsBetween}
 
@@ -97,12 +100,16 @@ floor_mono d (pos a) (negsuc b) some h = absurd (omega (arith, ints))
 floor_mono d (negsuc a) (pos b) some h = omega (arith, ints)
 floor_mono d (negsuc a) (negsuc b) some h = omega (arith, ints, div_mono b a d some (omega (arith, ints)))
 
-round_mono : (mode : Mode) (shift : ℕ) (a b : ℤ) → a ≤ℤ b → round_value mode shift a ≤ℤ round_value mode shift b
-round_mono HalfUp shift a b h = floor_mono (2 ^ shift) (a +ℤ pos (2 ^ (shift - 1))) (b +ℤ pos (2 ^ (shift - 1))) (pow_pos shift) (omega (arith, ints))
-round_mono Floor shift a b h = floor_mono (2 ^ shift) a b (pow_pos shift) h
+round_mono : (mode : Mode) (shift : ℕ) (a b : ℤ) → 1 ≤ shift → a ≤ℤ b → round_value mode shift a ≤ℤ round_value mode shift b
+round_mono HalfUp shift a b some h = floor_mono (2 ^ shift) (a +ℤ pos (2 ^ (shift - 1))) (b +ℤ pos (2 ^ (shift - 1))) (pow_pos shift) (omega (arith, ints))
+round_mono HalfEven shift a b some h = half_even_rises shift a b some h
+round_mono Floor shift a b some h = floor_mono (2 ^ shift) a b (pow_pos shift) h
 
-pub between-round : (mode : Mode) (shift : ℕ) (low high : ℤ) (x : Sequence) → AllBetween low high x → AllBetween (round_value mode shift low) (round_value mode shift high) (round mode shift x)
-between-round mode shift low high x h n = record {
-  least = round_mono mode shift low (x n) (h n).least;
-  greatest = round_mono mode shift (x n) high (h n).greatest;
+pub between-round : (mode : Mode) (shift : ℕ) (low high : ℤ) (x : Sequence) → 1 ≤ shift → AllBetween low high x → AllBetween (round_value mode shift low) (round_value mode shift high) (round mode shift x)
+between-round mode shift low high x some h n = record {
+  least = round_mono mode shift low (x n) some (h n).least;
+  greatest = round_mono mode shift (x n) high some (h n).greatest;
 }
+
+pub between-clip : (bits : ℕ) (low high : ℤ) (x : Sequence) → AllBetween low high x → AllBetween (clip_value bits low) (clip_value bits high) (clip bits x)
+between-clip bits low high x h n = record { least = clip_rises bits low (x n) (h n).least; greatest = clip_rises bits (x n) high (h n).greatest }

@@ -2,10 +2,11 @@
 use Rattle.std.proofs.Common.{◌≡◌, ◌∙◌, ℕ, ◌*◌, ◌^◌, refl, sym, ap, arith, List, [], ◌∷◌, ℤ, pos, ◌+ℤ◌, ◌*ℤ◌, None, Some}
 use Rattle.std.proofs.lemmas.Int.{ints}
 use Rattle.mr_values.specs.declared.plan.Element.{Element}
-use Rattle.mr_values.specs.declared.plan.Element.TheVariants.{Up, Down, Filter, CicDown, CicUp, Round}
+use Rattle.mr_values.specs.declared.plan.Element.TheVariants.{Up, Down, Filter, CicDown, CicUp, Round, Clip}
 use Rattle.mr_values.specs.declared.plan.Form.{Form}
 use Rattle.mr_values.specs.Value.{size, round_value}
-use Rattle.mr_values.specs.Timing.{Group, Fir, DownCic, UpCic, Rounding, groups, join_up, join_filter, Stream, after, after_all, low_end, high_end, low_after, high_after}
+use Rattle.mr_values.specs.Rounding.{clip_value}
+use Rattle.mr_values.specs.Timing.{Group, Fir, DownCic, UpCic, Rounding, Clipping, groups, join_up, join_filter, Stream, after, after_all, low_end, high_end, low_after, high_after}
 
 pub record Ends : Type 0 where
   pub low : ℤ
@@ -33,6 +34,7 @@ ends_past (Filter taps form) e = record { low = low_end taps e.low e.high; high 
 ends_past (CicDown factor stages delay) e = record { low = pos ((size factor * size delay) ^ size stages) *ℤ e.low; high = pos ((size factor * size delay) ^ size stages) *ℤ e.high }
 ends_past (CicUp factor stages delay) e = record { low = pos ((size factor * size delay) ^ size stages) *ℤ e.low; high = pos ((size factor * size delay) ^ size stages) *ℤ e.high }
 ends_past (Round shift mode) e = record { low = round_value mode (size shift) e.low; high = round_value mode (size shift) e.high }
+ends_past (Clip bits) e = record { low = clip_value (size bits) e.low; high = clip_value (size bits) e.high }
 
 -- ---- a group without a filter keeps the ends
 
@@ -49,6 +51,7 @@ ends-join_up factor (Fir (Some up) filter down ∷ gs) e = ap (ends_after_all (F
 ends-join_up factor (DownCic other stages delay ∷ gs) e = ap (ends_after_all (DownCic other stages delay ∷ gs)) (kept e)
 ends-join_up factor (UpCic other stages delay ∷ gs) e = ap (ends_after_all (UpCic other stages delay ∷ gs)) (kept e)
 ends-join_up factor (Rounding shift mode ∷ gs) e = ap (ends_after_all (Rounding shift mode ∷ gs)) (kept e)
+ends-join_up factor (Clipping bits ∷ gs) e = ap (ends_after_all (Clipping bits ∷ gs)) (kept e)
 
 ends-join_filter : (taps : List ℤ) (form : Form) (gs : List Group) (e : Ends) → ends_after_all (join_filter taps form gs) e ≡ ends_after_all gs (ends_past (Filter taps form) e)
 ends-join_filter taps form [] e = refl
@@ -59,6 +62,7 @@ ends-join_filter taps form (Fir (Some up) (Some f) down ∷ gs) e = refl
 ends-join_filter taps form (DownCic other stages delay ∷ gs) e = refl
 ends-join_filter taps form (UpCic other stages delay ∷ gs) e = refl
 ends-join_filter taps form (Rounding shift mode ∷ gs) e = refl
+ends-join_filter taps form (Clipping bits ∷ gs) e = refl
 
 pub ends-element : (el : Element) (es : List Element) (e : Ends) → ends_after_all (groups (el ∷ es)) e ≡ ends_after_all (groups es) (ends_past el e)
 ends-element (Up factor) es e = ends-join_up (size factor) (groups es) e
@@ -67,3 +71,4 @@ ends-element (Filter taps form) es e = ends-join_filter taps form (groups es) e
 ends-element (CicDown factor stages delay) es e = refl
 ends-element (CicUp factor stages delay) es e = refl
 ends-element (Round shift mode) es e = refl
+ends-element (Clip bits) es e = refl

@@ -1,18 +1,21 @@
 -- The bound of the rounding error.
-use Rattle.std.proofs.Common.{◌≡◌, ◌∙◌, ℕ, zero, suc, ◌+◌, ◌-◌, ◌*◌, ◌^◌, ◌<◌, ◌≤◌, refl, sym, ap, arith, subst, List, [], ◌∷◌, ℤ, pos, negsuc, neg_ℤ, ◌+ℤ◌, ◌-ℤ◌, ◌*ℤ◌, None, Some, Bool, true, false, cond, nat_eq}
+use Rattle.std.proofs.Common.{◌≡◌, ◌∙◌, ℕ, zero, suc, ◌+◌, ◌-◌, ◌*◌, ◌^◌, ◌<◌, ◌≤◌, refl, sym, ap, arith, subst, List, [], ◌∷◌, ℤ, pos, negsuc, neg_ℤ, ◌+ℤ◌, ◌-ℤ◌, ◌*ℤ◌, ◌≤ℤ◌, None, Some, Bool, true, false, cond, nat_eq}
 use Rattle.std.specs.Prelude.{All, unsigned_abs}
 use Rattle.std.proofs.lemmas.Int.{ints, unsigned_abs-mul}
 use Rattle.std.proofs.lemmas.Nat.{pow_pos, pow-add}
+use Rattle.std.proofs.lemmas.Bool.{true≢false}
 use Rattle.std.proofs.Math.Nat.{pow-suc, pow-zero, mul-le-mul_left}
 use Rattle.mr_values.specs.declared.plan.Element.{Element}
-use Rattle.mr_values.specs.declared.plan.Element.TheVariants.{Up, Down, Filter, CicDown, CicUp, Round}
+use Rattle.mr_values.specs.declared.plan.Element.TheVariants.{Up, Down, Filter, CicDown, CicUp, Round, Clip}
 use Rattle.mr_values.specs.declared.plan.Form.{Form}
 use Rattle.mr_values.specs.declared.plan.Mode.{Mode}
-use Rattle.mr_values.specs.declared.plan.Mode.TheVariants.{HalfUp, Floor}
+use Rattle.mr_values.specs.declared.plan.Mode.TheVariants.{HalfUp, HalfEven, Floor}
 use Rattle.mr_values.specs.Width.{floor_quotient, floor_remainder}
 use Rattle.mr_values.specs.Sequence.{Sequence, samples, weighted_sum, up, down, filter, filter_times, ones}
-use Rattle.mr_values.specs.Value.{size, apply, chain, round_value, IsWithinLimits}
-use Rattle.mr_values.specs.Timing.{Group, Fir, DownCic, UpCic, Rounding, groups, join_up, join_filter}
+use Rattle.mr_values.specs.Value.{size, apply, chain, round_value, has_clip, IsWithinLimits}
+use Rattle.mr_values.specs.Timing.{Group, Fir, DownCic, UpCic, Rounding, Clipping, groups, join_up, join_filter}
+use Rattle.mr_values.specs.Rounding.{half_even}
+use Rattle.mr_values.proofs.HalfEvenLemmas.{near_law}
 use Rattle.mr_values.proofs.Division.{floor_split, floor_remainder_below, pow_halves}
 use Rattle.mr_values.proofs.Ring.{*ℤ-+ℤ, *ℤ_assoc}
 use Rattle.plan_check.specs.Amounts.{magnitude, round_error, RoundingError, error_after_all, no_error}
@@ -29,6 +32,7 @@ error_past (Filter taps form) e = record { bound = e.bound * magnitude taps; shi
 error_past (CicDown factor stages delay) e = record { bound = e.bound * (size factor * size delay) ^ size stages; shift = e.shift }
 error_past (CicUp factor stages delay) e = record { bound = e.bound * (size factor * size delay) ^ size stages; shift = e.shift }
 error_past (Round shift mode) e = record { bound = e.bound + 2 ^ e.shift * round_error mode (size shift); shift = e.shift + size shift }
+error_past (Clip bits) e = e
 
 kept : (e : RoundingError) → record { bound = e.bound * 1; shift = e.shift } ≡ e
 kept e = ap (λ (n : ℕ). record { bound = n; shift = e.shift }) (omega arith)
@@ -40,6 +44,7 @@ error-join_up factor (Fir (Some up) filter down ∷ gs) e = ap (error_after_all 
 error-join_up factor (DownCic other stages delay ∷ gs) e = ap (error_after_all (DownCic other stages delay ∷ gs)) (kept e)
 error-join_up factor (UpCic other stages delay ∷ gs) e = ap (error_after_all (UpCic other stages delay ∷ gs)) (kept e)
 error-join_up factor (Rounding shift mode ∷ gs) e = ap (error_after_all (Rounding shift mode ∷ gs)) (kept e)
+error-join_up factor (Clipping bits ∷ gs) e = ap (error_after_all (Clipping bits ∷ gs)) (kept e)
 
 error-join_filter : (taps : List ℤ) (form : Form) (gs : List Group) (e : RoundingError) → error_after_all (join_filter taps form gs) e ≡ error_after_all gs (error_past (Filter taps form) e)
 error-join_filter taps form [] e = refl
@@ -50,6 +55,7 @@ error-join_filter taps form (Fir (Some up) (Some f) down ∷ gs) e = refl
 error-join_filter taps form (DownCic other stages delay ∷ gs) e = refl
 error-join_filter taps form (UpCic other stages delay ∷ gs) e = refl
 error-join_filter taps form (Rounding shift mode ∷ gs) e = refl
+error-join_filter taps form (Clipping bits ∷ gs) e = refl
 
 error-element : (el : Element) (es : List Element) (e : RoundingError) → error_after_all (groups (el ∷ es)) e ≡ error_after_all (groups es) (error_past el e)
 error-element (Up factor) es e = error-join_up (size factor) (groups es) e
@@ -58,6 +64,7 @@ error-element (Filter taps form) es e = error-join_filter taps form (groups es) 
 error-element (CicDown factor stages delay) es e = refl
 error-element (CicUp factor stages delay) es e = refl
 error-element (Round shift mode) es e = refl
+error-element (Clip bits) es e = refl
 
 -- ---- two sequences that differ by at most a bound
 
@@ -141,6 +148,15 @@ off-by HalfUp shift z some =
     rest-half : (d half rest : ℕ) (z : ℤ) → z ≡ pos half -ℤ pos rest → rest < d → d ≡ half + half → unsigned_abs z ≤ half
     rest-half d half rest (pos n) e below two = omega (arith, ints)
     rest-half d half rest (negsuc n) e below two = omega (arith, ints)
+off-by HalfEven shift z some =
+    let near = near_law shift z some in
+    let half = 2 ^ (shift - 1) in
+    let swap : pos (2 ^ shift) *ℤ half_even shift z ≡ half_even shift z *ℤ pos (2 ^ shift) = commuted (pos (2 ^ shift)) (half_even shift z) in
+    between-half (pos (2 ^ shift) *ℤ half_even shift z -ℤ z) half (omega (arith, ints, swap, near.0)) (omega (arith, ints, swap, near.1))
+  where
+    between-half : (z : ℤ) (half : ℕ) → z ≤ℤ pos half → neg_ℤ (pos half) ≤ℤ z → unsigned_abs z ≤ half
+    between-half (pos n) half high low = omega (arith, ints)
+    between-half (negsuc n) half high low = omega (arith, ints)
 off-by Floor shift z some =
     let split = floor_split z (2 ^ shift) (pow_pos shift) in
     let below = floor_remainder_below z (2 ^ shift) (pow_pos shift) in
@@ -168,34 +184,35 @@ by-element : (el : Element) (es : List Element) (e : RoundingError) (x v : Seque
     → Near (2 ^ (error_after_all (groups (el ∷ es)) e).shift) (error_after_all (groups (el ∷ es)) e).bound x v
 by-element el es e x v h = subst (λ (f : RoundingError). Near (2 ^ f.shift) f.bound x v) (sym (error-element el es e)) h
 
-near-chain : (es : List Element) (e : RoundingError) (x v : Sequence) → All IsWithinLimits es → Near (2 ^ e.shift) e.bound x v
+near-chain : (es : List Element) (e : RoundingError) (x v : Sequence) → has_clip es ≡ false → All IsWithinLimits es → Near (2 ^ e.shift) e.bound x v
     → Near (2 ^ (error_after_all (groups es) e).shift) (error_after_all (groups es) e).bound (chain es x) (chain (plain es) v)
-near-chain [] e x v limits h = h
-near-chain (Up factor ∷ es) e x v limits h =
-    by-element (Up factor) es e _ _ (near-chain es e (up (size factor) x) (up (size factor) v) (tail_limits (Up factor) es limits) (near-up (size factor) (2 ^ e.shift) e.bound x v h))
-near-chain (Down factor ∷ es) e x v limits h =
-    by-element (Down factor) es e _ _ (near-chain es e (down (size factor) x) (down (size factor) v) (tail_limits (Down factor) es limits) (near-down (size factor) (2 ^ e.shift) e.bound x v h))
-near-chain (Filter taps form ∷ es) e x v limits h =
+near-chain [] e x v free limits h = h
+near-chain (Up factor ∷ es) e x v free limits h =
+    by-element (Up factor) es e _ _ (near-chain es e (up (size factor) x) (up (size factor) v) free (tail_limits (Up factor) es limits) (near-up (size factor) (2 ^ e.shift) e.bound x v h))
+near-chain (Down factor ∷ es) e x v free limits h =
+    by-element (Down factor) es e _ _ (near-chain es e (down (size factor) x) (down (size factor) v) free (tail_limits (Down factor) es limits) (near-down (size factor) (2 ^ e.shift) e.bound x v h))
+near-chain (Filter taps form ∷ es) e x v free limits h =
     by-element (Filter taps form) es e _ _
-    (near-chain es (error_past (Filter taps form) e) (filter taps x) (filter taps v) (tail_limits (Filter taps form) es limits) (near-filter taps (2 ^ e.shift) e.bound x v h))
-near-chain (CicDown factor stages delay ∷ es) e x v limits h =
+    (near-chain es (error_past (Filter taps form) e) (filter taps x) (filter taps v) free (tail_limits (Filter taps form) es limits) (near-filter taps (2 ^ e.shift) e.bound x v h))
+near-chain (CicDown factor stages delay ∷ es) e x v free limits h =
     let n = size factor * size delay in
     let moving = near-moving (size stages) n (2 ^ e.shift) e.bound x v h in
     let kept_ones = near-down (size factor) (2 ^ e.shift) (e.bound * n ^ size stages) (filter_times (size stages) (ones n) x) (filter_times (size stages) (ones n) v) moving in
     by-element (CicDown factor stages delay) es e _ _
-    (near-chain es (error_past (CicDown factor stages delay) e) (apply (CicDown factor stages delay) x) (apply (CicDown factor stages delay) v) (tail_limits (CicDown factor stages delay) es limits) kept_ones)
-near-chain (CicUp factor stages delay ∷ es) e x v limits h =
+    (near-chain es (error_past (CicDown factor stages delay) e) (apply (CicDown factor stages delay) x) (apply (CicDown factor stages delay) v) free (tail_limits (CicDown factor stages delay) es limits) kept_ones)
+near-chain (CicUp factor stages delay ∷ es) e x v free limits h =
     let n = size factor * size delay in
     let raised = near-up (size factor) (2 ^ e.shift) e.bound x v h in
     let moving = near-moving (size stages) n (2 ^ e.shift) e.bound (up (size factor) x) (up (size factor) v) raised in
     by-element (CicUp factor stages delay) es e _ _
-    (near-chain es (error_past (CicUp factor stages delay) e) (apply (CicUp factor stages delay) x) (apply (CicUp factor stages delay) v) (tail_limits (CicUp factor stages delay) es limits) moving)
-near-chain (Round shift mode ∷ es) e x v limits h =
+    (near-chain es (error_past (CicUp factor stages delay) e) (apply (CicUp factor stages delay) x) (apply (CicUp factor stages delay) v) free (tail_limits (CicUp factor stages delay) es limits) moving)
+near-chain (Round shift mode ∷ es) e x v free limits h =
     let rounded = near-round mode (size shift) e.shift e.bound x v (size_low 64 shift (limits 0 (Round shift mode) (omega arith))) h in
-    by-element (Round shift mode) es e _ _ (near-chain es (error_past (Round shift mode) e) (apply (Round shift mode) x) v (tail_limits (Round shift mode) es limits) rounded)
+    by-element (Round shift mode) es e _ _ (near-chain es (error_past (Round shift mode) e) (apply (Round shift mode) x) v free (tail_limits (Round shift mode) es limits) rounded)
+near-chain (Clip bits ∷ es) e x v free limits h = absurd (true≢false free)
 
 pub bound_holds : (elements : List Element) → All IsWithinLimits elements → BoundHolds elements
-bound_holds elements limits xs n = near-chain elements no_error (samples xs) (samples xs) limits same n
+bound_holds elements limits free xs n = near-chain elements no_error (samples xs) (samples xs) free limits same n
   where
     itself : (z : ℤ) → unsigned_abs (pos 1 *ℤ z -ℤ z) ≤ 0
     itself z = let e : pos 1 *ℤ z -ℤ z ≡ pos 0 = omega (arith, ints) in rw e (omega arith)

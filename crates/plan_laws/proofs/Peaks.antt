@@ -3,10 +3,10 @@ use Rattle.std.proofs.Common.{ℕ, zero, suc, ◌-◌, ◌^◌, ◌≤◌, sym, 
 use Rattle.std.specs.Prelude.{All, unsigned_abs}
 use Rattle.std.proofs.lemmas.Int.{ints}
 use Rattle.mr_values.specs.declared.plan.Element.{Element}
-use Rattle.mr_values.specs.declared.plan.Element.TheVariants.{Up, Down, Filter, CicDown, CicUp, Round}
+use Rattle.mr_values.specs.declared.plan.Element.TheVariants.{Up, Down, Filter, CicDown, CicUp, Round, Clip}
 use Rattle.mr_values.specs.declared.plan.Form.{Form}
 use Rattle.mr_values.specs.Value.{size, IsWithinLimits}
-use Rattle.mr_values.specs.Timing.{Group, Fir, DownCic, UpCic, Rounding, groups, join_up, join_filter, input, last_stream}
+use Rattle.mr_values.specs.Timing.{Group, Fir, DownCic, UpCic, Rounding, Clipping, groups, join_up, join_filter, input, last_stream}
 use Rattle.plan_check.specs.Amounts.{peak_after}
 use Rattle.plan_check.proofs.GroupSplit.{size_low, tail_limits}
 use Rattle.plan_check.proofs.Narrow.{IsWithin, HasShift, within-after}
@@ -26,6 +26,7 @@ shifts-join_up factor (Fir (Some up) filter down ∷ gs) h = (tt, h)
 shifts-join_up factor (DownCic other stages delay ∷ gs) h = (tt, h)
 shifts-join_up factor (UpCic other stages delay ∷ gs) h = (tt, h)
 shifts-join_up factor (Rounding shift mode ∷ gs) h = (tt, h)
+shifts-join_up factor (Clipping bits ∷ gs) h = (tt, h)
 
 shifts-join_filter : (taps : List ℤ) (form : Form) (gs : List Group) → HaveShifts gs → HaveShifts (join_filter taps form gs)
 shifts-join_filter taps form [] h = (tt, tt)
@@ -36,6 +37,7 @@ shifts-join_filter taps form (Fir (Some up) (Some f) down ∷ gs) h = (tt, h)
 shifts-join_filter taps form (DownCic other stages delay ∷ gs) h = (tt, h)
 shifts-join_filter taps form (UpCic other stages delay ∷ gs) h = (tt, h)
 shifts-join_filter taps form (Rounding shift mode ∷ gs) h = (tt, h)
+shifts-join_filter taps form (Clipping bits ∷ gs) h = (tt, h)
 
 pub have_shifts : (es : List Element) → All IsWithinLimits es → HaveShifts (groups es)
 have_shifts [] h = tt
@@ -45,6 +47,7 @@ have_shifts (Filter taps form ∷ es) h = shifts-join_filter taps form (groups e
 have_shifts (CicDown factor stages delay ∷ es) h = (tt, have_shifts es (tail_limits (CicDown factor stages delay) es h))
 have_shifts (CicUp factor stages delay ∷ es) h = (tt, have_shifts es (tail_limits (CicUp factor stages delay) es h))
 have_shifts (Round shift mode ∷ es) h = (size_low 64 shift (h 0 (Round shift mode) (omega arith)), have_shifts es (tail_limits (Round shift mode) es h))
+have_shifts (Clip bits ∷ es) h = (tt, have_shifts es (tail_limits (Clip bits) es h))
 
 within-all : (gs : List Group) (peak : ℕ) (e : Ends) → HaveShifts gs → IsWithin peak e.low e.high → IsWithin (peak_after_all gs peak) (ends_after_all gs e).low (ends_after_all gs e).high
 within-all [] peak e shifts h = h

@@ -9,12 +9,13 @@ use Rattle.std.proofs.Math.Path.{fun_ext}
 use borrow.Author.Differences.{up as positive_part, down as negative_part}
 use borrow.Author.Tests.{eqb-true}
 use Rattle.mr_values.specs.declared.plan.Element.{Element}
-use Rattle.mr_values.specs.declared.plan.Element.TheVariants.{Up, Down, Filter, CicDown, CicUp, Round}
+use Rattle.mr_values.specs.declared.plan.Element.TheVariants.{Up, Down, Filter, CicDown, CicUp, Round, Clip}
 use Rattle.mr_values.specs.declared.plan.Form.{Form}
 use Rattle.mr_values.specs.Width.{floor_quotient, floor_remainder}
 use Rattle.mr_values.specs.Sequence.{Sequence, samples, weighted_sum, up, down, filter, filter_times, ones, cic_down, cic_up}
-use Rattle.mr_values.specs.Value.{size, chain, round, round_value, IsWithinLimits}
-use Rattle.mr_values.specs.Timing.{Group, Fir, DownCic, UpCic, Rounding, groups, join_up, join_filter, ceil_div, up_factor, down_factor, period_after, after_all, input, Stream, after}
+use Rattle.mr_values.specs.Value.{size, chain, round, round_value, IsWithinLimits, clip}
+use Rattle.mr_values.specs.Rounding.{clip_value}
+use Rattle.mr_values.specs.Timing.{Group, Fir, DownCic, UpCic, Rounding, Clipping, groups, join_up, join_filter, ceil_div, up_factor, down_factor, period_after, after_all, input, Stream, after}
 use Rattle.mr_values.proofs.Division.{floor_split, floor_unique}
 use Rattle.mr_values.proofs.Ring.{+ℤ-*ℤ}
 use Rattle.plan_check.specs.Groups.{size_of, first_failing}
@@ -39,6 +40,7 @@ apply_group (Fir u f d) x = optional down d (optional filter_by f (optional up u
 apply_group (DownCic factor stages delay) x = cic_down factor stages delay x
 apply_group (UpCic factor stages delay) x = cic_up factor stages delay x
 apply_group (Rounding shift mode) x = round mode shift x
+apply_group (Clipping bits) x = clip bits x
 
 abbrev pub apply_groups : List Group → Sequence → Sequence
 apply_groups [] x = x
@@ -51,6 +53,7 @@ groups-join_up factor (Fir (Some u) f d ∷ gs) x = refl
 groups-join_up factor (DownCic other stages delay ∷ gs) x = refl
 groups-join_up factor (UpCic other stages delay ∷ gs) x = refl
 groups-join_up factor (Rounding shift mode ∷ gs) x = refl
+groups-join_up factor (Clipping bits ∷ gs) x = refl
 
 groups-join_filter : (taps : List ℤ) (form : Form) (gs : List Group) (x : Sequence) → apply_groups (join_filter taps form gs) x ≡ apply_groups gs (filter taps x)
 groups-join_filter taps form [] x = refl
@@ -61,6 +64,7 @@ groups-join_filter taps form (Fir (Some u) (Some f) d ∷ gs) x = refl
 groups-join_filter taps form (DownCic other stages delay ∷ gs) x = refl
 groups-join_filter taps form (UpCic other stages delay ∷ gs) x = refl
 groups-join_filter taps form (Rounding shift mode ∷ gs) x = refl
+groups-join_filter taps form (Clipping bits ∷ gs) x = refl
 
 pub chain-groups : (es : List Element) (x : Sequence) → chain es x ≡ apply_groups (groups es) x
 chain-groups [] x = refl
@@ -70,6 +74,7 @@ chain-groups (Filter taps form ∷ es) x = chain-groups es (filter taps x) ∙ s
 chain-groups (CicDown factor stages delay ∷ es) x = chain-groups es (cic_down (size factor) (size stages) (size delay) x)
 chain-groups (CicUp factor stages delay ∷ es) x = chain-groups es (cic_up (size factor) (size stages) (size delay) x)
 chain-groups (Round shift mode ∷ es) x = chain-groups es (round mode (size shift) x)
+chain-groups (Clip bits ∷ es) x = chain-groups es (clip (size bits) x)
 
 -- ---- how far a transform looks back
 
@@ -178,6 +183,7 @@ inner (Fir u f d) = optional filter_by f
 inner (DownCic factor stages delay) = filter_times stages (ones (factor * delay))
 inner (UpCic factor stages delay) = filter_times stages (ones (factor * delay))
 inner (Rounding shift mode) = λ x. x
+inner (Clipping bits) = λ x. x
 
 -- what a group makes of one value at the end
 abbrev last_step : Group → ℤ → ℤ
@@ -185,6 +191,7 @@ last_step (Fir u f d) z = z
 last_step (DownCic factor stages delay) z = z
 last_step (UpCic factor stages delay) z = z
 last_step (Rounding shift mode) z = round_value mode shift z
+last_step (Clipping bits) z = clip_value bits z
 
 one_place : (n : ℤ) → n *ℤ pos 1 ≡ n
 one_place n = omega (arith, ints)
@@ -203,6 +210,7 @@ group-parts (Fir u f d) x n =
 group-parts (DownCic factor stages delay) x n = ap (λ (y : Sequence). filter_times stages (ones (factor * delay)) y (n *ℤ pos factor)) (sym (up_one x))
 group-parts (UpCic factor stages delay) x n = ap (filter_times stages (ones (factor * delay)) (up factor x)) (sym (one_place n))
 group-parts (Rounding shift mode) x n = ap (λ (y : Sequence). round_value mode shift (y n)) (sym (up_one x)) ∙ ap (λ (m : ℤ). round_value mode shift (up 1 x m)) (sym (one_place n))
+group-parts (Clipping bits) x n = ap (λ (y : Sequence). clip_value bits (y n)) (sym (up_one x)) ∙ ap (λ (m : ℤ). clip_value bits (up 1 x m)) (sym (one_place n))
 
 looks-inner : (g : Group) → LooksBack (memory_of g) (inner g)
 looks-inner (Fir u None d) = looks-itself
@@ -210,6 +218,7 @@ looks-inner (Fir u (Some f) d) = looks-filter f.0
 looks-inner (DownCic factor stages delay) = looks-moving stages (factor * delay)
 looks-inner (UpCic factor stages delay) = looks-moving stages (factor * delay)
 looks-inner (Rounding shift mode) = looks-itself
+looks-inner (Clipping bits) = looks-itself
 
 -- ---- all groups
 
@@ -275,6 +284,7 @@ some-join_up factor (Fir (Some u) f d ∷ gs) some h = (some, h)
 some-join_up factor (DownCic other stages delay ∷ gs) some h = (some, h)
 some-join_up factor (UpCic other stages delay ∷ gs) some h = (some, h)
 some-join_up factor (Rounding shift mode ∷ gs) some h = (some, h)
+some-join_up factor (Clipping bits ∷ gs) some h = (some, h)
 
 some-join_filter : (taps : List ℤ) (form : Form) (gs : List Group) → AreSome gs → AreSome (join_filter taps form gs)
 some-join_filter taps form [] h = (omega arith, tt)
@@ -285,6 +295,7 @@ some-join_filter taps form (Fir (Some u) (Some f) d ∷ gs) h = (omega arith, h)
 some-join_filter taps form (DownCic other stages delay ∷ gs) h = (omega arith, h)
 some-join_filter taps form (UpCic other stages delay ∷ gs) h = (omega arith, h)
 some-join_filter taps form (Rounding shift mode ∷ gs) h = (omega arith, h)
+some-join_filter taps form (Clipping bits ∷ gs) h = (omega arith, h)
 
 are_some : (es : List Element) → All IsWithinLimits es → AreSome (groups es)
 are_some [] h = tt
@@ -295,6 +306,7 @@ are_some (CicDown factor stages delay ∷ es) h = (omega arith, are_some es (tai
 are_some (CicUp factor stages delay ∷ es) h =
     (size_low 4096 factor (h 0 (CicUp factor stages delay) (omega arith)).0, are_some es (tail_limits (CicUp factor stages delay) es h))
 are_some (Round shift mode ∷ es) h = (omega arith, are_some es (tail_limits (Round shift mode) es h))
+are_some (Clip bits ∷ es) h = (omega arith, are_some es (tail_limits (Clip bits) es h))
 
 pub reach_holds : (ticks : ℕ) (elements : List Element) → 1 ≤ ticks → All IsWithinLimits elements → rates_test ticks (groups elements) ≡ None → ReachHolds ticks elements
 reach_holds ticks elements some limits rates xs ys n near =

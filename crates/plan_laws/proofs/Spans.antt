@@ -4,7 +4,7 @@ use Rattle.std.specs.Prelude.{All}
 use Rattle.std.proofs.lemmas.Int.{ints}
 use Rattle.std.proofs.lemmas.Nat.{pow_pos}
 use Rattle.mr_values.specs.declared.plan.Element.{Element}
-use Rattle.mr_values.specs.declared.plan.Element.TheVariants.{Up, Down, Filter, CicDown, CicUp, Round}
+use Rattle.mr_values.specs.declared.plan.Element.TheVariants.{Up, Down, Filter, CicDown, CicUp, Round, Clip}
 use Rattle.mr_values.specs.Width.{FitsWidth}
 use Rattle.mr_values.specs.Sequence.{Sequence, samples, filter_times, ones, up}
 use Rattle.mr_values.specs.Value.{size, apply, chain, IsWithinLimits}
@@ -12,7 +12,7 @@ use Rattle.mr_values.specs.Timing.{groups, input, last_stream}
 use Rattle.mr_values.proofs.Zeros.{zeros, apply-zeros, IsRounding}
 use Rattle.plan_check.proofs.GroupSplit.{size_low, tail_limits}
 use Rattle.plan_laws.specs.Laws.{IsBetween, SpanHolds}
-use Rattle.plan_laws.proofs.Between.{AllBetween, between-filter, between-up, between-down, between-moving, between-round}
+use Rattle.plan_laws.proofs.Between.{AllBetween, between-filter, between-up, between-down, between-moving, between-round, between-clip}
 use Rattle.plan_laws.proofs.Ends.{Ends, ends_of, ends_past, ends_after_all, ends-stream, ends-element}
 
 -- the sequence, and the zero sequence
@@ -20,16 +20,17 @@ pub record Within (e : Ends) (x : Sequence) : Type 0 where
   pub values : AllBetween e.low e.high x
   pub none : AllBetween e.low e.high zeros
 
-between-apply : (el : Element) (e : Ends) (x : Sequence) → IsBetween e.low e.high (pos 0) → AllBetween e.low e.high x → AllBetween (ends_past el e).low (ends_past el e).high (apply el x)
-between-apply (Up factor) e x none h = between-up (size factor) e.low e.high x none h
-between-apply (Down factor) e x none h = between-down (size factor) e.low e.high x h
-between-apply (Filter taps form) e x none h = between-filter taps e.low e.high x h
-between-apply (CicDown factor stages delay) e x none h =
+between-apply : (el : Element) (e : Ends) (x : Sequence) → IsRounding el → IsBetween e.low e.high (pos 0) → AllBetween e.low e.high x → AllBetween (ends_past el e).low (ends_past el e).high (apply el x)
+between-apply (Up factor) e x some none h = between-up (size factor) e.low e.high x none h
+between-apply (Down factor) e x some none h = between-down (size factor) e.low e.high x h
+between-apply (Filter taps form) e x some none h = between-filter taps e.low e.high x h
+between-apply (CicDown factor stages delay) e x some none h =
     let n = size factor * size delay in
     between-down (size factor) _ _ (filter_times (size stages) (ones n) x) (between-moving (size stages) n e.low e.high x h)
-between-apply (CicUp factor stages delay) e x none h =
+between-apply (CicUp factor stages delay) e x some none h =
     between-moving (size stages) (size factor * size delay) e.low e.high (up (size factor) x) (between-up (size factor) e.low e.high x none h)
-between-apply (Round shift mode) e x none h = between-round mode (size shift) e.low e.high x h
+between-apply (Round shift mode) e x some none h = between-round mode (size shift) e.low e.high x some h
+between-apply (Clip bits) e x some none h = between-clip (size bits) e.low e.high x h
 
 pub is_rounding : (el : Element) → IsWithinLimits el → IsRounding el
 is_rounding (Up factor) h = tt
@@ -38,13 +39,14 @@ is_rounding (Filter taps form) h = tt
 is_rounding (CicDown factor stages delay) h = tt
 is_rounding (CicUp factor stages delay) h = tt
 is_rounding (Round shift mode) h = size_low 64 shift h
+is_rounding (Clip bits) h = tt
 
 within-apply : (el : Element) (e : Ends) (x : Sequence) → IsWithinLimits el → Within e x → Within (ends_past el e) (apply el x)
 within-apply el e x limits h =
     let none = h.none (pos 0) in
     record {
-      values = between-apply el e x none h.values;
-      none = subst (AllBetween (ends_past el e).low (ends_past el e).high) (apply-zeros el (is_rounding el limits)) (between-apply el e zeros none h.none);
+      values = between-apply el e x (is_rounding el limits) none h.values;
+      none = subst (AllBetween (ends_past el e).low (ends_past el e).high) (apply-zeros el (is_rounding el limits)) (between-apply el e zeros (is_rounding el limits) none h.none);
     }
 
 within-chain : (es : List Element) (e : Ends) (x : Sequence) → All IsWithinLimits es → Within e x → Within (ends_after_all (groups es) e) (chain es x)

@@ -1,10 +1,10 @@
 -- What the numbers of a plan say of its values.
-use Rattle.std.specs.Prelude.{ℕ, ◌-◌, ◌^◌, ◌≤◌, List, [], ◌∷◌, All, ℤ, pos, ◌+ℤ◌, ◌-ℤ◌, ◌*ℤ◌, ◌≤ℤ◌, ◌<ℤ◌, ◌≡◌, unsigned_abs}
+use Rattle.std.specs.Prelude.{false, ℕ, ◌-◌, ◌^◌, ◌≤◌, List, [], ◌∷◌, All, ℤ, pos, ◌+ℤ◌, ◌-ℤ◌, ◌*ℤ◌, ◌≤ℤ◌, ◌<ℤ◌, ◌≡◌, unsigned_abs}
 use Rattle.mr_values.specs.declared.plan.Element.{Element}
-use Rattle.mr_values.specs.declared.plan.Element.TheVariants.{Up, Down, Filter, CicDown, CicUp, Round}
+use Rattle.mr_values.specs.declared.plan.Element.TheVariants.{Up, Down, Filter, CicDown, CicUp, Round, Clip}
 use Rattle.mr_values.specs.Width.{FitsWidth}
 use Rattle.mr_values.specs.Sequence.{samples}
-use Rattle.mr_values.specs.Value.{val}
+use Rattle.mr_values.specs.Value.{val, has_clip}
 use Rattle.mr_values.specs.Timing.{Group, groups, last_stream, period_after}
 use Rattle.plan_check.specs.Amounts.{peak_after, error_after_all, no_error}
 use Rattle.plan_check.specs.Costs.{Spread, spread_after}
@@ -23,6 +23,7 @@ plain (Filter taps form ∷ es) = Filter taps form ∷ plain es
 plain (CicDown factor stages delay ∷ es) = CicDown factor stages delay ∷ plain es
 plain (CicUp factor stages delay ∷ es) = CicUp factor stages delay ∷ plain es
 plain (Round shift mode ∷ es) = plain es
+plain (Clip bits ∷ es) = Clip bits ∷ plain es
 
 pub record IsBetween (low high z : ℤ) : Type 0 where
   pub least : low ≤ℤ z
@@ -37,11 +38,11 @@ SpanHolds width ticks elements = (xs : List ℤ) (n : ℤ) → All (FitsWidth wi
 abbrev pub PeakHolds : ℕ → List Element → Type 0
 PeakHolds width elements = (xs : List ℤ) (n : ℤ) → All (FitsWidth width) xs → unsigned_abs (val elements xs n) ≤ peak_after_all (groups elements) (2 ^ (width - 1))
 
--- 2 ^ shift times a value is at most the bound away from the value of the chain without its roundings
+-- 2 ^ shift times a value is at most the bound away from the value of the chain without its roundings, where nothing is clipped
 abbrev pub BoundHolds : List Element → Type 0
 BoundHolds elements =
     let error = error_after_all (groups elements) no_error in
-    (xs : List ℤ) (n : ℤ) → unsigned_abs (pos (2 ^ error.shift) *ℤ val elements xs n -ℤ val (plain elements) xs n) ≤ error.bound
+    has_clip elements ≡ false → (xs : List ℤ) (n : ℤ) → unsigned_abs (pos (2 ^ error.shift) *ℤ val elements xs n -ℤ val (plain elements) xs n) ≤ error.bound
 
 -- the classes and the reach after all groups
 abbrev pub spread_after_all : ℕ → List Group → ℕ → Spread → Spread

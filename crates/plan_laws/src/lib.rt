@@ -18,7 +18,7 @@ pub fn law_of_peak()
     ensures { (width : ℕ) (elements : List Element) → 1 ≤ width → All IsWithinLimits elements → PeakHolds width elements }
 {}
 
-/// Times two to the shift, no value of a chain is further than the bound from the value of the chain
+/// Times two to the shift, no value of a chain that clips nothing is further than the bound from the value of the chain
 /// without its roundings.
 pub fn law_of_bound()
     ensures { (elements : List Element) → All IsWithinLimits elements → BoundHolds elements }

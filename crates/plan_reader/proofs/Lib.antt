@@ -4,4 +4,5 @@ mod PrintSteps
 mod Refusals
 mod TapSteps
 mod TappedSteps
+pub mod FirstSteps
 pub mod OneAnswer

@@ -12,10 +12,11 @@ use Rattle.toml.specs.View.{view, items_view, members_view}
 use Rattle.toml.proofs.Views.{items_view-push}
 use Rattle.std.proofs.lemmas.List.{take_more}
 use Rattle.mr_values.specs.declared.plan.Element.{Element}
-use Rattle.mr_values.specs.declared.plan.Element.TheVariants.{Up, Down, Filter, CicDown, CicUp, Round}
+use Rattle.mr_values.specs.declared.plan.Element.TheVariants.{Up, Down, Filter, CicDown, CicUp, Round, Clip}
 use Rattle.mr_values.specs.declared.plan.Form.TheVariants.{Parallel, Symmetric, HalfBand, Folded, Distributed}
-use Rattle.mr_values.specs.declared.plan.Mode.TheVariants.{HalfUp, Floor}
+use Rattle.mr_values.specs.declared.plan.Mode.TheVariants.{HalfUp, HalfEven, Floor}
 use Rattle.mr_values.specs.declared.plan.Plan.{Plan}
+use Rattle.mr_values.specs.Value.{IsFirst, AreFirst}
 use Rattle.plan_reader.specs.Fields.{are_numbers, are_tables, numbers_of}
 use Rattle.plan_reader.specs.Documents.{element_from, elements_from, plan_of, Says}
 use Rattle.plan_reader.specs.Printed.{put_member, number_items, element_members, element_items, plan_members}
@@ -42,29 +43,31 @@ numbers_of-items : (taps : List ℤ) → numbers_of (number_items taps) ≡ taps
 numbers_of-items [] = refl
 numbers_of-items (c ∷ cs) = ap (λ (xs : List ℤ). c ∷ xs) (numbers_of-items cs)
 
-element-again : (n : ℕ) (e : Element) → element_from n (element_members e) ≡ Ok (record { element = e; file = None })
-element-again n (Up factor) = refl
-element-again n (Down factor) = refl
-element-again n (Filter taps Parallel) = rw (are_numbers-items taps, numbers_of-items taps) refl
-element-again n (Filter taps Symmetric) = rw (are_numbers-items taps, numbers_of-items taps) refl
-element-again n (Filter taps HalfBand) = rw (are_numbers-items taps, numbers_of-items taps) refl
-element-again n (Filter taps (Folded slots)) = rw (are_numbers-items taps, numbers_of-items taps) refl
-element-again n (Filter taps (Distributed group)) = rw (are_numbers-items taps, numbers_of-items taps) refl
-element-again n (CicDown factor stages delay) = refl
-element-again n (CicUp factor stages delay) = refl
-element-again n (Round shift HalfUp) = refl
-element-again n (Round shift Floor) = refl
+element-again : (n : ℕ) (e : Element) → IsFirst e → element_from n (element_members e) ≡ Ok (record { element = e; file = None })
+element-again n (Up factor) h = refl
+element-again n (Down factor) h = refl
+element-again n (Filter taps Parallel) h = rw (are_numbers-items taps, numbers_of-items taps) refl
+element-again n (Filter taps Symmetric) h = rw (are_numbers-items taps, numbers_of-items taps) refl
+element-again n (Filter taps HalfBand) h = rw (are_numbers-items taps, numbers_of-items taps) refl
+element-again n (Filter taps (Folded slots)) h = rw (are_numbers-items taps, numbers_of-items taps) refl
+element-again n (Filter taps (Distributed group)) h = rw (are_numbers-items taps, numbers_of-items taps) refl
+element-again n (CicDown factor stages delay) h = refl
+element-again n (CicUp factor stages delay) h = refl
+element-again n (Round shift HalfUp) h = refl
+element-again n (Round shift HalfEven) h = absurd h
+element-again n (Round shift Floor) h = refl
+element-again n (Clip bits) h = absurd h
 
-elements-again : (n : ℕ) (es : List Element) → elements_from n (element_items es) ≡ Ok (record { elements = es; files = [] })
-elements-again n [] = refl
-elements-again n (e ∷ es) = rw (element-again n e, elements-again (suc n) es) refl
+elements-again : (n : ℕ) (es : List Element) → AreFirst es → elements_from n (element_items es) ≡ Ok (record { elements = es; files = [] })
+elements-again n [] h = refl
+elements-again n (e ∷ es) h = rw (element-again n e h.0, elements-again (suc n) es h.1) refl
 
 are_tables-items : (es : List Element) → are_tables (element_items es) ≡ true
 are_tables-items [] = refl
 are_tables-items (e ∷ es) = are_tables-items es
 
-plan-again : (plan : Plan) → plan_of (plan_members plan) ≡ Ok (record { plan = plan; files = [] })
-plan-again plan = rw (are_tables-items plan.elements, elements-again 1 plan.elements) refl
+plan-again : (plan : Plan) → AreFirst plan.elements → plan_of (plan_members plan) ≡ Ok (record { plan = plan; files = [] })
+plan-again plan h = rw (are_tables-items plan.elements, elements-again 1 plan.elements h) refl
 
 -- ---- how deep it is
 
@@ -83,6 +86,7 @@ element-depth (Filter taps (Distributed group)) = rw (numbers-flat taps) (omega 
 element-depth (CicDown factor stages delay) = omega arith
 element-depth (CicUp factor stages delay) = omega arith
 element-depth (Round shift mode) = omega arith
+element-depth (Clip bits) = omega arith
 
 elements-depth : (es : List Element) → items_depth (element_items es) ≤ 2
 elements-depth [] = omega arith
@@ -92,8 +96,8 @@ pub plan-depth : (plan : Plan) → members_depth (plan_members plan) ≤ 80
 plan-depth plan = omega (arith, elements-depth plan.elements)
 
 -- what is printed says the plan
-pub printed : (plan : Plan) (bytes : List ℕ) (ms : Members) → IsUtf8 bytes → ms ≡ plan_members plan → parse_document bytes ≡ Some ms → Says bytes (Ok (record { plan = plan; files = [] }))
-printed plan bytes ms utf8 is parsed = record { text = utf8; says = ap (option_map plan_of) (parsed ∙ ap Some is) ∙ ap Some (plan-again plan) }
+pub printed : (plan : Plan) (bytes : List ℕ) (ms : Members) → AreFirst plan.elements → IsUtf8 bytes → ms ≡ plan_members plan → parse_document bytes ≡ Some ms → Says bytes (Ok (record { plan = plan; files = [] }))
+printed plan bytes ms first utf8 is parsed = record { text = utf8; says = ap (option_map plan_of) (parsed ∙ ap Some is) ∙ ap Some (plan-again plan first) }
 
 -- ---- arrays
 
@@ -126,10 +130,10 @@ elements-pushed values values' elements i d e value h so_far seen is pushed =
     ∙ ap element_items (sym (take_more elements i d h))
 
 -- what is handed out says the plan
-pub printed-copied : (plan : Plan) (result : Result (Vec ℕ Global) Memory) (shown bytes : List ℕ) (ms : Members) → IfOk result (λ v. v.items ≡ shown) → shown ≡ bytes → IsUtf8 shown → ms ≡ plan_members plan
+pub printed-copied : (plan : Plan) (result : Result (Vec ℕ Global) Memory) (shown bytes : List ℕ) (ms : Members) → AreFirst plan.elements → IfOk result (λ v. v.items ≡ shown) → shown ≡ bytes → IsUtf8 shown → ms ≡ plan_members plan
     → (members_depth ms ≤ 80 → parse_document bytes ≡ Some ms) → IfOk result (λ v. Says v.items (Ok (record { plan = plan; files = [] })))
-printed-copied plan (Err memory) shown bytes ms copy same utf8 is reads = tt
-printed-copied plan (Ok v) shown bytes ms copy same utf8 is reads =
+printed-copied plan (Err memory) shown bytes ms first copy same utf8 is reads = tt
+printed-copied plan (Ok v) shown bytes ms first copy same utf8 is reads =
     let shallow : members_depth ms ≤ 80 = subst (λ (m : Members). members_depth m ≤ 80) (sym is) (plan-depth plan) in
     let parsed : parse_document shown ≡ Some ms = ap parse_document same ∙ reads shallow in
-    subst (λ (text : List ℕ). Says text (Ok (record { plan = plan; files = [] }))) (sym copy) (printed plan shown ms utf8 is parsed)
+    subst (λ (text : List ℕ). Says text (Ok (record { plan = plan; files = [] }))) (sym copy) (printed plan shown ms first utf8 is parsed)

@@ -1,7 +1,7 @@
 -- Taps that are put into a plan.
 use Rattle.std.proofs.Common.{◌≡◌, ℕ, zero, suc, ◌<◌, ◌≤◌, List, [], ◌∷◌, length, get_or, set, ℤ, arith, refl, sym, ap}
 use Rattle.mr_values.specs.declared.plan.Element.{Element}
-use Rattle.mr_values.specs.declared.plan.Element.TheVariants.{Up, Down, Filter, CicDown, CicUp, Round}
+use Rattle.mr_values.specs.declared.plan.Element.TheVariants.{Up, Down, Filter, CicDown, CicUp, Round, Clip}
 use Rattle.mr_values.specs.declared.plan.Form.{Form}
 use Rattle.plan_reader.specs.Tapped.{tapped, tapped_at}
 
@@ -22,6 +22,7 @@ same_other taps (Down factor) other = refl
 same_other taps (CicDown factor stages delay) other = refl
 same_other taps (CicUp factor stages delay) other = refl
 same_other taps (Round shift mode) other = refl
+same_other taps (Clip bits) other = refl
 
 pub tapped-other : (place : ℕ) (taps : List ℤ) (es : List Element) (d : Element) → place < length es → ((form : Form) (old : List ℤ) → get_or es place d ≡ Filter old form → ⊥) → es ≡ tapped_at place taps es
 tapped-other place taps [] d h other = refl

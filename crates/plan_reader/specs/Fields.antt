@@ -4,7 +4,7 @@ use Rattle.std.specs.List.{list_any}
 use Rattle.std.specs.Str.{bytes_eq}
 use Rattle.toml.specs.Data.{Data, Items, no_items, item, Members, no_members, member, get_member, as_integer, as_array, as_table}
 use Rattle.plan_reader.specs.declared.keys.Key.{Key}
-use Rattle.plan_reader.specs.declared.keys.Key.TheVariants.{Version, Width, Ticks, Element, Kind, Factor, Taps, TapsFile, Form, Slots, Group, Stages, Delay, Shift, Mode}
+use Rattle.plan_reader.specs.declared.keys.Key.TheVariants.{Version, Width, Ticks, Element, Kind, Factor, Taps, TapsFile, Form, Slots, Group, Stages, Delay, Shift, Mode, Bits}
 use Rattle.plan_reader.specs.declared.keys.FieldFault.{FieldFault}
 use Rattle.plan_reader.specs.declared.fault.FieldWhy.{FieldWhy}
 use Rattle.plan_reader.specs.declared.fault.FieldWhy.TheVariants.{Missing, WrongType, BadWord}
@@ -31,6 +31,7 @@ key_text Stages = codes "stages"
 key_text Delay = codes "delay"
 key_text Shift = codes "shift"
 key_text Mode = codes "mode"
+key_text Bits = codes "bits"
 
 -- a value of the type that is asked for
 abbrev pub typed : {T : Type 0} → Option T → Result T FieldWhy

@@ -4,11 +4,11 @@ use Rattle.std.specs.Ordering.{nat_cmp, match_ordering}
 use Rattle.std.specs.Cmp.Lexicographic.{slice_cmp}
 use Rattle.toml.specs.Data.{Data, string, integer, array, table, Items, no_items, item, Members, no_members, member}
 use Rattle.mr_values.specs.declared.plan.Element.{Element}
-use Rattle.mr_values.specs.declared.plan.Element.TheVariants.{Up, Down, Filter, CicDown, CicUp, Round}
+use Rattle.mr_values.specs.declared.plan.Element.TheVariants.{Up, Down, Filter, CicDown, CicUp, Round, Clip}
 use Rattle.mr_values.specs.declared.plan.Form.{Form}
 use Rattle.mr_values.specs.declared.plan.Form.TheVariants.{Parallel, Symmetric, HalfBand, Folded, Distributed}
 use Rattle.mr_values.specs.declared.plan.Mode.{Mode}
-use Rattle.mr_values.specs.declared.plan.Mode.TheVariants.{HalfUp, Floor}
+use Rattle.mr_values.specs.declared.plan.Mode.TheVariants.{HalfUp, HalfEven, Floor}
 use Rattle.mr_values.specs.declared.plan.Plan.{Plan}
 use Rattle.plan_reader.specs.declared.keys.Key.{Key}
 use Rattle.plan_reader.specs.declared.keys.Key.TheVariants as key
@@ -35,6 +35,7 @@ number_items (number ∷ numbers) = item (integer number) (number_items numbers)
 
 abbrev pub mode_word : Mode → List ℕ
 mode_word HalfUp = codes "half_up"
+mode_word HalfEven = codes "half_even"
 mode_word Floor = codes "floor"
 
 abbrev pub with_form : Form → Members → Members
@@ -54,6 +55,7 @@ element_members (Filter taps form) = with_form form (with_value key.Taps (array 
 element_members (CicDown factor stages delay) = with_number key.Delay delay (with_number key.Stages stages (with_number key.Factor factor (with_kind (codes "cic_down"))))
 element_members (CicUp factor stages delay) = with_number key.Delay delay (with_number key.Stages stages (with_number key.Factor factor (with_kind (codes "cic_up"))))
 element_members (Round shift mode) = with_word key.Mode (mode_word mode) (with_number key.Shift shift (with_kind (codes "round")))
+element_members (Clip bits) = with_number key.Bits bits (with_kind (codes "clip"))
 
 abbrev pub element_items : List Element → Items
 element_items [] = no_items

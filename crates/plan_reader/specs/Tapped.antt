@@ -1,7 +1,7 @@
 -- A plan with other taps in one of its filters.
 use Rattle.std.specs.Prelude.{ℕ, zero, suc, ℤ, List, [], ◌∷◌}
 use Rattle.mr_values.specs.declared.plan.Element.{Element}
-use Rattle.mr_values.specs.declared.plan.Element.TheVariants.{Up, Down, Filter, CicDown, CicUp, Round}
+use Rattle.mr_values.specs.declared.plan.Element.TheVariants.{Up, Down, Filter, CicDown, CicUp, Round, Clip}
 use Rattle.mr_values.specs.declared.plan.Plan.{Plan}
 
 -- other taps where the element is a filter
@@ -12,6 +12,7 @@ tapped taps (Down factor) = Down factor
 tapped taps (CicDown factor stages delay) = CicDown factor stages delay
 tapped taps (CicUp factor stages delay) = CicUp factor stages delay
 tapped taps (Round shift mode) = Round shift mode
+tapped taps (Clip bits) = Clip bits
 
 -- other taps at a place from 0
 abbrev pub tapped_at : ℕ → List ℤ → List Element → List Element

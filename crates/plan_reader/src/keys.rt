@@ -22,6 +22,7 @@ pub enum Key {
     Delay,
     Shift,
     Mode,
+    Bits,
 }
 
 /// What is wrong with a table, and at which of its keys.
@@ -51,5 +52,6 @@ pub fn key_text(key: Key) -> &'static str
         Key::Delay => "delay",
         Key::Shift => "shift",
         Key::Mode => "mode",
+        Key::Bits => "bits",
     }
 }

@@ -1,6 +1,7 @@
 // Plans as files.
 ghost use Rattle.std.specs.Prelude.{◌≡◌, [], Ok, IfOk, OnOk};
 ghost use Rattle.mr_values.specs.declared.plan.Plan.{Plan};
+ghost use Rattle.mr_values.specs.Value.{AreFirst};
 ghost use Rattle.toml.specs.View.{view, items_view, table_view};
 ghost use Rattle.plan_reader.specs.Documents.{Says};
 ghost use Rattle.plan_reader.specs.Printed.{with_value, with_number, with_word, with_form, with_kind, number_items, mode_word, element_members, element_items, plan_members};
@@ -10,8 +11,9 @@ use mr_values::{Element, Form, Memory, Mode, Plan};
 use std::alloc::Global;
 use toml::{Table, Value};
 
-/// The text of a plan file that reads as the plan, with all keys and with the taps in it. Fails only for want of memory.
+/// The text of a plan file of version 1 that reads as the plan, with all keys and with the taps in it. Fails only for want of memory.
 pub fn plan_text(alloc: Global, plan: &Plan) -> Result<Vec<u8>, Memory>
+    requires { AreFirst plan.now.elements }
     ensures { IfOk result (λ text. Says text.items (Ok (record { plan = plan.now; files = [] }))) }
 {
     let table = plan_table(alloc, plan)?;
@@ -69,7 +71,16 @@ fn element_table(alloc: Global, element: &Element) -> Result<Table, Memory>
             delay,
         } => cic_table(alloc, "cic_up", *factor, *stages, *delay),
         Element::Round { shift, mode } => round_table(alloc, *shift, *mode),
+        Element::Clip { bits } => clip_table(alloc, *bits),
     }
+}
+
+fn clip_table(alloc: Global, bits: i64) -> Result<Table, Memory>
+    ensures { IfOk result (λ table. table_view table ≡ element_members (Element.Clip bits)) }
+{
+    let mut table = kind_table(alloc, "clip")?;
+    put_number(alloc, &mut table, Key::Bits, bits)?;
+    Ok(table)
 }
 
 fn rate_table(alloc: Global, kind: &str, factor: i64) -> Result<Table, Memory>
@@ -148,6 +159,7 @@ fn mode_word(mode: Mode) -> &'static str
 {
     match mode {
         Mode::HalfUp => "half_up",
+        Mode::HalfEven => "half_even",
         Mode::Floor => "floor",
     }
 }

@@ -1,5 +1,6 @@
 // Plan files.
-ghost use Rattle.std.specs.Prelude.{◌≡◌, Ok, MatchResult};
+ghost use Rattle.std.specs.Prelude.{◌≡◌, Ok, IfOk, MatchResult};
+ghost use Rattle.mr_values.specs.Value.{AreFirst};
 ghost use Rattle.plan_reader.specs.Documents.{Says, IsRefusedFor};
 
 use crate::document::plan_of;
@@ -11,7 +12,8 @@ use std::alloc::Global;
 /// `Field` for the first field that is wrong, and with `Memory` for want of memory, also where there are 2^32 - 1
 /// elements or more.
 pub fn read_plan(alloc: Global, bytes: &[u8]) -> Result<PlanText, PlanReadFault>
-    ensures { MatchResult result (λ text. Says bytes.now (Ok text)) (IsRefusedFor bytes.now) }
+    ensures says { MatchResult result (λ text. Says bytes.now (Ok text)) (IsRefusedFor bytes.now) }
+    ensures first { IfOk result (λ text. AreFirst text.plan.elements) }
 {
     match toml::table_from_slice(alloc, bytes) {
         Ok(table) => plan_of(alloc, &table),

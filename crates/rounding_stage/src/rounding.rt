@@ -1,11 +1,11 @@
 // Rounding to a multiple of a power of two.
 
-ghost use Rattle.std.specs.Prelude.{◌≡◌, ℕ, ◌+◌, ◌-◌, ◌<◌, ◌≤◌, ◌^◌, ℤ, pos, neg_ℤ, ◌≤ℤ◌, ◌+ℤ◌, length, IfOk};
+ghost use Rattle.std.specs.Prelude.{◌≡◌, true, ℕ, ◌+◌, ◌-◌, ◌<◌, ◌≤◌, ◌^◌, ℤ, pos, neg_ℤ, ◌≤ℤ◌, ◌+ℤ◌, length, IfOk};
 ghost use Rattle.mr_values.specs.Value.{round_value};
 ghost use Rattle.mr_values.specs.Width.{floor_quotient, IsLeastWidth};
 ghost use Rattle.net_graph.specs.Grow.{Extends};
 ghost use Rattle.rounding_stage.specs.Map.{IsMap};
-ghost use Rattle.rounding_stage.specs.Rounding.{rounding_facts, rounding_adders, rounding_takes};
+ghost use Rattle.rounding_stage.specs.Rounding.{is_built_mode, rounding_facts, rounding_adders, rounding_takes};
 
 use crate::register::held;
 use mr_values::{Memory, Mode, floor_shift, least_width, power};
@@ -20,12 +20,14 @@ pub struct Rounding {
     pub mode: Mode,
     ghost some: { 1 ≤ shift },
     ghost most: { shift ≤ 64 },
+    ghost built: { is_built_mode mode ≡ true },
 }
 
 impl Rounding {
     pub fn new(shift: u8, mode: Mode) -> Rounding
         requires some { 1 ≤ shift }
         requires most { shift ≤ 64 }
+        requires built { is_built_mode mode ≡ true }
         ensures shift { result.shift ≡ shift }
         ensures mode { result.mode ≡ mode }
     {
@@ -106,6 +108,7 @@ fn sum_node(
 
 // A node, rounded, where it lies in the range.
 fn rounded(net: &mut Net, node: Node, mode: Mode, shift: u8, range: Range) -> Result<Node, Memory>
+    requires built { is_built_mode mode ≡ true }
     requires within { node.place < length net.old.cells }
     requires data_group { 1 ≤ net.old.group }
     requires low { 1 ≤ shift }
@@ -118,6 +121,7 @@ fn rounded(net: &mut Net, node: Node, mode: Mode, shift: u8, range: Range) -> Re
     ensures group { net.new.group ≡ net.old.group }
 {
     match mode {
+        Mode::HalfEven => unreachable!(),
         Mode::Floor => {
             let to = floor_node(net, node, shift, range)?;
             Ok(to)
@@ -155,6 +159,7 @@ impl Stage for Rounding {
         let adders = match self.mode {
             Mode::Floor => 0,
             Mode::HalfUp => 1,
+            Mode::HalfEven => 1,
         };
         Cost {
             adders,

@@ -1,7 +1,7 @@
 -- Which stages are linear, which carry their elements in whole numbers, and which have the nodes of a linear group alone.
 use Rattle.std.specs.Prelude.{Bool, true, false}
 use Rattle.stage_law.specs.declared.stage.Kind.{Kind}
-use Rattle.stage_law.specs.declared.stage.Kind.TheVariants.{Parallel, Symmetric, HalfBand, Folded, Distributed, CicDown, CicUp, Rounding}
+use Rattle.stage_law.specs.declared.stage.Kind.TheVariants.{Parallel, Symmetric, HalfBand, Folded, Distributed, CicDown, CicUp, Rounding, Clipping}
 
 -- its registers have the least widths, and each holds in the run what it holds uncut
 abbrev pub is_linear : Kind → Bool
@@ -13,6 +13,7 @@ is_linear Distributed = false
 is_linear CicDown = false
 is_linear CicUp = false
 is_linear Rounding = false
+is_linear Clipping = false
 
 -- it carries its elements in the uncut run too
 abbrev pub carries_uncut : Kind → Bool
@@ -24,6 +25,7 @@ carries_uncut Distributed = true
 carries_uncut CicDown = true
 carries_uncut CicUp = true
 carries_uncut Rounding = false
+carries_uncut Clipping = false
 
 -- its nodes compute sums, differences, constants, shifts up and choices by control, or are registers
 abbrev pub has_linear_shape : Kind → Bool
@@ -35,3 +37,4 @@ has_linear_shape Distributed = false
 has_linear_shape CicDown = true
 has_linear_shape CicUp = true
 has_linear_shape Rounding = false
+has_linear_shape Clipping = false

@@ -23,6 +23,7 @@ pub enum Kind {
     CicDown,
     CicUp,
     Rounding,
+    Clipping,
 }
 
 /// A stage takes `down` values for each `up` that it gives.

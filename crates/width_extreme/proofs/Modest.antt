@@ -6,11 +6,11 @@ use Rattle.std.proofs.Math.Nat.{mul-le-mul_right, mul_comm}
 use Rattle.std.proofs.Math.Seq.{take-append_seam}
 use Rattle.std.proofs.lemmas.Nat.{div-add-mod', mod_below, pow_pos}
 use Rattle.mr_values.specs.declared.plan.Element.{Element}
-use Rattle.mr_values.specs.declared.plan.Element.TheVariants.{Up, Down, Filter, CicDown, CicUp, Round}
+use Rattle.mr_values.specs.declared.plan.Element.TheVariants.{Up, Down, Filter, CicDown, CicUp, Round, Clip}
 use Rattle.mr_values.specs.declared.plan.Form.{Form}
 use Rattle.mr_values.specs.declared.plan.Plan.{Plan}
 use Rattle.mr_values.specs.Value.{size, IsWithinLimits}
-use Rattle.mr_values.specs.Timing.{Group, Fir, DownCic, UpCic, Rounding, groups, join_up, join_filter, up_factor, down_factor, period_after}
+use Rattle.mr_values.specs.Timing.{Group, Fir, DownCic, UpCic, Rounding, Clipping, groups, join_up, join_filter, up_factor, down_factor, period_after}
 use Rattle.plan_check.specs.declared.fault.CostWhich.{CostWhich}
 use Rattle.plan_check.specs.declared.fault.CostWhich.TheVariants.{Response as ResponseCost, Cycle as CycleCost}
 use Rattle.plan_check.specs.Groups.{size_of, last_of, first_failing}
@@ -48,6 +48,7 @@ AreBounded (Fir up filter down ∷ gs) p most = IsBounded (Fir up filter down) p
 AreBounded (DownCic factor stages delay ∷ gs) p most = IsBounded (DownCic factor stages delay) p most × AreBounded gs (turn (DownCic factor stages delay) p) (most * gain (DownCic factor stages delay))
 AreBounded (UpCic factor stages delay ∷ gs) p most = IsBounded (UpCic factor stages delay) p most × AreBounded gs (turn (UpCic factor stages delay) p) (most * gain (UpCic factor stages delay))
 AreBounded (Rounding shift mode ∷ gs) p most = Unit {0}
+AreBounded (Clipping bits ∷ gs) p most = Unit {0}
 
 -- a factor of 1 changes nothing
 up_once : (p : Cycle) → cycle_up 1 p ≡ p
@@ -105,6 +106,7 @@ up-bounded factor (Fir (Some u) filter down ∷ gs) p most h = (few-before (Fir 
 up-bounded factor (DownCic r n d ∷ gs) p most h = (few-before (Fir (Some factor) None None) p most h.0, alone (DownCic r n d ∷ gs) (cycle_up factor p) most h.1)
 up-bounded factor (UpCic r n d ∷ gs) p most h = (few-before (Fir (Some factor) None None) p most h.0, alone (UpCic r n d ∷ gs) (cycle_up factor p) most h.1)
 up-bounded factor (Rounding shift mode ∷ gs) p most h = (few-before (Fir (Some factor) None None) p most h.0, tt)
+up-bounded factor (Clipping bits ∷ gs) p most h = (few-before (Fir (Some factor) None None) p most h.0, tt)
 
 -- the groups after a Filter
 same_cycle : (p : Cycle) → cycle_down 1 (cycle_up 1 p) ≡ p
@@ -126,6 +128,7 @@ filter-bounded taps form (Fir (Some u) filter down ∷ gs) p most h = (h.0.most_
 filter-bounded taps form (DownCic r n d ∷ gs) p most h = (h.0.most_after, subst (λ (q : Cycle). AreBounded (DownCic r n d ∷ gs) q (most * magnitude taps)) (same_cycle p) h.1)
 filter-bounded taps form (UpCic r n d ∷ gs) p most h = (h.0.most_after, subst (λ (q : Cycle). AreBounded (UpCic r n d ∷ gs) q (most * magnitude taps)) (same_cycle p) h.1)
 filter-bounded taps form (Rounding shift mode ∷ gs) p most h = (h.0.most_after, tt)
+filter-bounded taps form (Clipping bits ∷ gs) p most h = (h.0.most_after, tt)
 
 -- ---- element by element
 
@@ -181,6 +184,7 @@ element-small (CicUp factor stages delay) es p most linear small h =
     let product = mul_comm most ((size factor * size delay) ^ size stages) in
     after_up (size factor) (UpCic (size factor) (size stages) (size delay)) p most ((size factor * size delay) ^ size stages * most) (groups es) refl product h.0 h.1
 element-small (Round shift mode) es p most linear small h = absurd linear
+element-small (Clip bits) es p most linear small h = absurd linear
 
 elements-modest : (es : List Element) (p : Cycle) (most k : ℕ) → AreLinear (take k es) → IsSmall p most → AreBounded (groups es) p most
     → IsModest (cycle_after_all (take k es) p) (gain_after_all (take k es) most)
@@ -274,6 +278,7 @@ small-up factor (Fir (Some u) filter down ∷ gs) some h = (record { up_low = so
 small-up factor (DownCic r n d ∷ gs) some h = (record { up_low = some; down_low = omega arith; down_high = omega arith }, h)
 small-up factor (UpCic r n d ∷ gs) some h = (record { up_low = some; down_low = omega arith; down_high = omega arith }, h)
 small-up factor (Rounding shift mode ∷ gs) some h = (record { up_low = some; down_low = omega arith; down_high = omega arith }, h)
+small-up factor (Clipping bits ∷ gs) some h = (record { up_low = some; down_low = omega arith; down_high = omega arith }, h)
 
 small-filter : (taps : List ℤ) (form : Form) (gs : List Group) → AreSmallGroups gs → AreSmallGroups (join_filter taps form gs)
 small-filter taps form [] h = (record { up_low = omega arith; down_low = omega arith; down_high = omega arith }, tt)
@@ -283,6 +288,7 @@ small-filter taps form (Fir (Some u) filter down ∷ gs) h = (record { up_low = 
 small-filter taps form (DownCic r n d ∷ gs) h = (record { up_low = omega arith; down_low = omega arith; down_high = omega arith }, h)
 small-filter taps form (UpCic r n d ∷ gs) h = (record { up_low = omega arith; down_low = omega arith; down_high = omega arith }, h)
 small-filter taps form (Rounding shift mode ∷ gs) h = (record { up_low = omega arith; down_low = omega arith; down_high = omega arith }, h)
+small-filter taps form (Clipping bits ∷ gs) h = (record { up_low = omega arith; down_low = omega arith; down_high = omega arith }, h)
 
 small-groups : (es : List Element) → All IsWithinLimits es → AreSmallGroups (groups es)
 small-groups [] h = tt
@@ -299,6 +305,7 @@ small-groups (CicUp factor stages delay ∷ es) h =
     (record { up_low = size_low 4096 factor within.0; down_low = omega arith; down_high = omega arith }, small-groups es (tail_limits (CicUp factor stages delay) es h))
 small-groups (Round shift mode ∷ es) h =
     (record { up_low = omega arith; down_low = omega arith; down_high = omega arith }, small-groups es (tail_limits (Round shift mode) es h))
+small-groups (Clip bits ∷ es) h = (record { up_low = omega arith; down_low = omega arith; down_high = omega arith }, small-groups es (tail_limits (Clip bits) es h))
 
 -- ---- what the tests say of all groups
 
@@ -371,6 +378,7 @@ are-bounded : (ticks : ℕ) (gs : List Group) (first : ℕ) (t : Tally) (s : Spr
     → first_failing (cost_test ticks) (tally_after ticks) first t gs ≡ None → AreBounded gs p most
 are-bounded ticks [] first t s peak base p most some small fits rates peaks costs = tt
 are-bounded ticks (Rounding shift mode ∷ gs) first t s peak base p most some small fits rates peaks costs = tt
+are-bounded ticks (Clipping bits ∷ gs) first t s peak base p most some small fits rates peaks costs = tt
 are-bounded ticks (Fir up filter down ∷ gs) first t s peak base p most some small fits rates peaks costs =
     let g = Fir up filter down in
     let rate = none_of _ _ rates in

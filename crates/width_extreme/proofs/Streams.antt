@@ -3,7 +3,7 @@ use Rattle.std.proofs.Common.{◌≡◌, ℕ, ◌*◌, ◌/◌, List, [], ◌∷
 use Rattle.std.proofs.Math.Nat.{mul_comm}
 use Rattle.std.proofs.lemmas.Int.{ints}
 use Rattle.mr_values.specs.declared.plan.Element.{Element}
-use Rattle.mr_values.specs.declared.plan.Element.TheVariants.{Up, Down, Filter, CicDown, CicUp, Round}
+use Rattle.mr_values.specs.declared.plan.Element.TheVariants.{Up, Down, Filter, CicDown, CicUp, Round, Clip}
 use Rattle.mr_values.specs.Sequence.{Sequence, samples, weighted_sum}
 use Rattle.mr_values.specs.Value.{size, chain}
 use Rattle.mr_values.proofs.Polyphase.{weighted_sum-same}
@@ -48,6 +48,7 @@ element-balance (Filter taps form) q p linear h = h
 element-balance (CicDown factor stages delay) q p linear h = balanced-down (size factor) q.classes q.step p.down p.up h
 element-balance (CicUp factor stages delay) q p linear h = balanced-up (size factor) q.classes q.step p.down p.up h
 element-balance (Round shift mode) q p linear h = absurd linear
+element-balance (Clip bits) q p linear h = absurd linear
 
 elements-balance : (es : List Element) (q : Cycle) (p : Extent) → AreLinear es → q.classes * p.down ≡ q.step * p.up
     → (cycle_after_all es q).classes * (extent_after_all es p).down ≡ (cycle_after_all es q).step * (extent_after_all es p).up

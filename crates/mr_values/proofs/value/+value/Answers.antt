@@ -2,7 +2,7 @@ use Rattle.std.proofs.Common.{◌≡◌, pos, ◌-◌, rules, arith, ap, ◌∙�
 use Rattle.std.specs.Int.{w64, w128}
 use Rattle.std.proofs.lemmas.Int.{ints, to_z-of_z}
 use Rattle.mr_values.specs.Sequence.{samples, filter_times, ones, up}
-use Rattle.mr_values.specs.Value.{size, val, chain}
+use Rattle.mr_values.specs.Value.{size, val, chain, round_value}
 use Rattle.mr_values.proofs.Plain.{filter-step, stage-step, chain-empty, chain-last, same_answer, cic_down-plain, cic_up-plain}
 use Rattle.mr_values.proofs.value.+value.Goals as goal
 
@@ -42,6 +42,13 @@ element_at-returns-in-Round t c =
     let at : to_z w128 (of_z w128 c.args.n) ≡ c.args.n = to_z-of_z w128 _ c.ranges.n in
     rw c.in-Round.is record { exact = same_answer _ _ _ c.round_at.ensures.exact (rw (shift, at) refl) }
 
+pub element_at-returns-in-Clip : goal.element_at-returns-in-Clip
+element_at-returns-in-Clip t c =
+    let bits_fits : FitsSigned w64 c.in-Clip.bits = search rules in
+    let bits : c.size-in-Clip.result ≡ size c.in-Clip.bits = c.size-in-Clip.ensures ∙ ap size (to_z-of_z w64 _ bits_fits) in
+    let at : to_z w128 (of_z w128 c.args.n) ≡ c.args.n = to_z-of_z w128 _ c.ranges.n in
+    rw c.in-Clip.is record { exact = same_answer _ _ _ c.clip_at.ensures.exact (rw (bits, at) refl) }
+
 pub filter_at-loop-k-preserved : goal.filter_at-loop-k-preserved
 filter_at-loop-k-preserved t c =
     let at_fits : FitsSigned w128 c.in_ok-at.at = search rules in
@@ -51,6 +58,13 @@ filter_at-loop-k-preserved t c =
     filter-step _ _ c.loop-k.k _ c.in_ok-value.value _ (omega arith) c.loop-k.invariant
     (c.in_ok-value.ensures.exact ∙ ap (val c.args.before.now c.args.xs.now) (omega (arith, ints, c.in_ok-at.ensures)))
     (to_z-of_z w128 _ sum_fits ∙ (simp to_z-of_z at c.in_ok-sum.ensures))
+
+pub round_at-returns : goal.round_at-returns
+round_at-returns t c =
+    let value_fits : FitsSigned w128 c.in_ok-value.value = search rules in
+    let value : to_z w128 (of_z w128 c.in_ok-value.value) ≡ c.in_ok-value.value = to_z-of_z w128 _ value_fits in
+    let at : to_z w128 (of_z w128 c.args.n) ≡ c.args.n = to_z-of_z w128 _ c.ranges.n in
+    record { exact = same_answer _ _ _ c.rounded.ensures (ap (round_value c.args.mode c.args.shift) (value ∙ c.in_ok-value.ensures.exact ∙ ap (val c.args.before.now c.args.xs.now) at)) }
 
 pub stages_at-loop-k-preserved : goal.stages_at-loop-k-preserved
 stages_at-loop-k-preserved t c =

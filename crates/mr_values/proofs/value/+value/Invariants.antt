@@ -3,6 +3,9 @@ use Rattle.mr_values.specs.Sequence.{samples, weighted_sum, up, filter_times, on
 use Rattle.mr_values.specs.Value.{chain}
 use Rattle.mr_values.proofs.value.+value.Given as goal
 
+abbrev pub decreases-clip_at : goal.decreases-clip_at
+decreases-clip_at l = length l.before.now * 2 ^ 66 + 1
+
 abbrev pub decreases-element_at : goal.decreases-element_at
 decreases-element_at l = length l.before.now * 2 ^ 66 + 2 ^ 65
 

@@ -2,7 +2,7 @@ use Rattle.std.proofs.Common.{◌∙◌, ap, rules, FitsSigned}
 use Rattle.std.specs.Int.{w64}
 use Rattle.std.proofs.lemmas.Int.{to_z-of_z}
 use Rattle.mr_values.specs.Value.{size}
-use Rattle.plan_check.proofs.GroupSplit.{split-cic_down, split-cic_up, split-round}
+use Rattle.plan_check.proofs.GroupSplit.{split-cic_down, split-cic_up, split-round, split-clip}
 use Rattle.plan_check.proofs.group.split_group.Goals as goal
 
 pub returns-in-CicDown : goal.returns-in-CicDown
@@ -24,6 +24,11 @@ returns-in-CicUp c =
     (c.whole-in-CicUp.ensures ∙ ap size (to_z-of_z w64 _ f))
     (c.whole-in-CicUp-2.ensures ∙ ap size (to_z-of_z w64 _ s))
     (c.whole-in-CicUp-3.ensures ∙ ap size (to_z-of_z w64 _ d)) c.requires
+
+pub returns-in-Clip : goal.returns-in-Clip
+returns-in-Clip c =
+    let b : FitsSigned w64 c.in-Clip.bits = search rules in
+    split-clip _ _ _ _ _ c.in_ok-first.ensures.cases.0 c.in-Clip.is (c.whole-in-Clip.ensures ∙ ap size (to_z-of_z w64 _ b)) c.requires
 
 pub returns-in-Round : goal.returns-in-Round
 returns-in-Round c =
