@@ -1,11 +1,11 @@
 -- The weights of a cascade are those of the filters that it stands for.
-use Rattle.std.proofs.Common.{◌≡◌, ℕ, zero, suc, ◌+◌, ◌-◌, ◌*◌, ◌≤◌, ◌^◌, List, [], ◌∷◌, refl, sym, ◌∙◌, ap, arith, unsigned_abs, ℤ, pos, negsuc, ◌+ℤ◌, ◌-ℤ◌}
+use Rattle.std.proofs.Common.{◌≡◌, ℕ, zero, suc, ◌+◌, ◌-◌, ◌*◌, ◌≤◌, ◌^◌, List, [], ◌∷◌, refl, ◌∙◌, ap, arith, unsigned_abs, ℤ, pos, negsuc, ◌+ℤ◌, ◌-ℤ◌}
 use Rattle.std.proofs.Math.Path.{fun_ext}
 use Rattle.std.proofs.Math.Nat.{pow-suc, pow-zero, mul-le-mul_left}
 use Rattle.std.proofs.lemmas.Int.{ints}
 use Rattle.mr_values.specs.Sequence.{Sequence, filter, ones, filter_times, phase}
 use Rattle.stage_law.specs.Streams.{magnitudes}
-use Rattle.running_sums.specs.Weights.{added, behind, moving, moving_times, cic_weights}
+use Rattle.running_sums.specs.Weights.{added, behind, moving, cic_weights}
 use Rattle.running_sums.proofs.MovingLemmas.{moves_filter, moves_as_ones}
 
 filter-one : (x : Sequence) → filter (pos 1 ∷ []) x ≡ x

@@ -35,14 +35,7 @@ pub(crate) fn through_sum(table: &Response, alloc: Global, width: u64) -> Result
         let turn = turn_at(table, width, index);
         let less = &table.rows[turn.class].weights;
         let more = &table.rows[index].weights;
-        cover = moved_cover(
-            alloc,
-            &cover,
-            turn.ahead,
-            less.len(),
-            turn.back,
-            more.len(),
-        )?;
+        cover = moved_cover(alloc, &cover, turn.ahead, less.len(), turn.back, more.len())?;
         let sums = &rows[index - 1].weights;
         let weights = moved_row(alloc, sums, turn.ahead, less, turn.back, more, cover.len())?;
         rows.push(Row {

@@ -34,3 +34,39 @@ fn an_up_a_filter_and_a_down(rt: HostRuntime) -> Result<(), Fail> {
     assert_eq!(rt; response.newest(1), 1);
     Ok(())
 }
+
+// (1 + z)^2 by hand, whose even weights tell the samples and whose odd one stands between them.
+#[test]
+fn an_interpolator(rt: HostRuntime) -> Result<(), Fail> {
+    let elements = [Element::CicUp {
+        factor: 2,
+        stages: 2,
+        delay: 1,
+    }];
+    let response = Response::of(rt.alloc(), &elements)?;
+    assert_eq!(rt; response.classes(), 2);
+    assert_eq!(rt; response.phase(0), [1, 1].as_slice());
+    assert_eq!(rt; response.phase(1), [2].as_slice());
+    assert_eq!(rt; response.newest(1), 0);
+    Ok(())
+}
+
+// A sum over three of the values x0, 0, x1, 0, .. by hand, every third: two classes, so one whole round and a rest.
+#[test]
+fn a_decimator_of_two_classes(rt: HostRuntime) -> Result<(), Fail> {
+    let elements = [
+        Element::Up { factor: 2 },
+        Element::CicDown {
+            factor: 3,
+            stages: 1,
+            delay: 1,
+        },
+    ];
+    let response = Response::of(rt.alloc(), &elements)?;
+    assert_eq!(rt; response.classes(), 2);
+    assert_eq!(rt; response.step(), 3);
+    assert_eq!(rt; response.phase(0), [1, 1].as_slice());
+    assert_eq!(rt; response.phase(1), [1].as_slice());
+    assert_eq!(rt; response.newest(1), 1);
+    Ok(())
+}
