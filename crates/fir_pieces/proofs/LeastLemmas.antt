@@ -1,10 +1,8 @@
 -- The registers of a filter are those of its list, and have the least widths.
-use Rattle.std.proofs.Common.{◌≡◌, ℕ, zero, suc, ◌+◌, ◌-◌, ◌*◌, ◌<◌, ◌≤◌, max, List, [], ◌∷◌, ◌++◌, length, map, refl, sym, ◌∙◌, ap, arith, inl, inr, subst, ◌⊎◌, ℤ, pos, ◌-ℤ◌, Some, slice_get}
+use Rattle.std.proofs.Common.{◌≡◌, ℕ, zero, suc, ◌+◌, ◌*◌, ◌<◌, ◌≤◌, max, List, [], ◌∷◌, ◌++◌, length, map, refl, sym, ◌∙◌, ap, arith, inl, inr, subst, ◌⊎◌, ℤ, Some, slice_get}
 use Rattle.std.proofs.lemmas.Bool.{cases_lt}
-use Rattle.std.proofs.lemmas.Int.{ints}
 use Rattle.std.proofs.lemmas.List.{map-append, length-map}
 use Rattle.std.proofs.lemmas.Option.{slice_get_within}
-use Rattle.mr_values.proofs.Polyphase.{weighted_sum-same}
 use Rattle.net_graph.specs.declared.cell.Cell.{Cell}
 use Rattle.net_graph.specs.declared.cell.Node.{Node}
 use Rattle.net_graph.specs.declared.cell.Stream.{Stream}
@@ -13,12 +11,8 @@ use Rattle.net_graph.specs.declared.name.NameKind.{NameKind}
 use Rattle.net_graph.specs.declared.name.NameKind.TheVariants.{Control, Window, Copy, PreAdder, Register, Table, Output, Valid}
 use Rattle.net_graph.specs.Cells.{NetView}
 use Rattle.net_graph.specs.Grow.{Extends}
-use Rattle.net_graph.specs.Cut.{cut_all, cut_control}
 use Rattle.net_graph.specs.WellFormed.{IsFree}
-use Rattle.net_graph.proofs.CutLemmas.{IsCut-all, IsCut-control}
-use Rattle.pipeline_balance.specs.Gate.{HasTaken}
 use Rattle.pipeline_balance.specs.Numbered.{IsCounted, LeavesFree, IsTouched, name_of}
-use Rattle.pipeline_balance.proofs.TakenLemmas.{taken}
 use Rattle.stage_law.specs.Facts.{StageFacts}
 use Rattle.stage_law.specs.Least.{IsKeptWhole, HoldsSum, HasStageRegister, IsListed, IsTimely, HasRegisters, named_peak}
 use Rattle.stage_law.specs.Realises.{IsOwnName, IsUnused}
@@ -35,35 +29,22 @@ use Rattle.fir_pieces.specs.Cutting.{AddsWindow}
 use Rattle.fir_pieces.specs.Peaks.{HoldsForm, IsDue, peaks_at}
 use Rattle.fir_pieces.proofs.DueLemmas.{IsDue-later, window_due}
 use Rattle.fir_pieces.proofs.ListLemmas.{length-window_sums, window_sums-at, single, each_numbered, each_appended, listed_numbered, listed_left, listed_right}
+use Rattle.fir_pieces.proofs.PaceLemmas.{split_is_pace}
+use Rattle.fir_pieces.proofs.PhaseDueLemmas.{holds_phase, forms_whole}
 use Rattle.fir_pieces.proofs.PeakLemmas.{single_bits, named-peaks_at, peaks_of-append}
 use Rattle.fir_pieces.proofs.WidthsLemmas.{AreHeld-none, slice_get_some, slice_get_mapped}
 
 -- ---- one register
 
 -- one value in both runs
-kept_whole : (streams : Streams) (cells : List Cell) (from : Stream) (form : List ℤ) (ticks : ℕ) (node : Node) → 1 ≤ from.period → HoldsForm streams cells from form ticks node → IsKeptWhole streams cells from node
-kept_whole streams cells from form ticks node positive h = record {
-  same = λ x values whole v is run uncut carried carried' t. elim (cases_lt t ticks) [
-    | inl soon ↦ h.early cut_all IsCut-all x values v is run carried t soon ∙ sym (h.early cut_control IsCut-control x whole v is uncut carried' t soon)
-    | inr later ↦
-        let s = t - ticks in
-        let tick : s + ticks ≡ t = omega arith in
-        let before = taken from.period from.offset s positive in
-        ap (λ (n : ℕ). values n node.place) (sym tick) ∙ h.late cut_all IsCut-all x values v is run carried s before.0 before.1
-        ∙ sym (h.late cut_control IsCut-control x whole v is uncut carried' s before.0 before.1) ∙ ap (λ (n : ℕ). whole n node.place) tick
-  ];
-}
+kept_whole : (streams : Streams) (cells : List Cell) (from : Stream) (form : List ℤ) (ticks : ℕ) (node : Node) → HoldsForm streams cells from form ticks node → IsKeptWhole streams cells from node
+kept_whole streams cells from form ticks node h = forms_whole streams h
 
-holds_sum : (streams : Streams) (cells : List Cell) (from : Stream) (s : HeldSum) (ticks : ℕ) (node : Node) → 1 ≤ from.period → s.lag ≡ suc ticks → HoldsForm streams cells from s.form ticks node → HoldsSum streams cells from node s
-holds_sum streams cells from s ticks node positive lag h = record {
-  at = λ cut law x values v is run carried k in_class.
-      let t = suc (from.offset + k * from.period) in
-      let tick : from.offset + k * from.period + s.lag ≡ t + ticks = omega (arith, lag) in
-      let at : (i : ℕ) → pos (suc k) -ℤ pos 1 -ℤ pos i ≡ pos k -ℤ pos i = λ i. omega (arith, ints) in
-      let now : HasTaken from.period from.offset (suc k) t = (omega arith, omega arith) in
-      ap (λ (n : ℕ). values n node.place) tick ∙ h.late cut law x values v is run carried t (suc k) now
-      ∙ weighted_sum-same s.form (λ i. v (pos (suc k) -ℤ pos 1 -ℤ pos i)) (λ i. v (pos k -ℤ pos i)) (λ i. ap v (at i));
-}
+holds_sum : (streams : Streams) (cells : List Cell) (from : Stream) (s : HeldSum) (ticks : ℕ) (node : Node) → 1 ≤ from.period → s.class ≡ every → s.lag ≡ suc ticks → HoldsForm streams cells from s.form ticks node → HoldsSum streams cells from node s
+holds_sum streams cells from s ticks node positive class lag h =
+    let one : 1 + ticks ≡ s.lag = omega (arith, lag) in
+    let held = holds_phase {forms = λ φ. s.form} streams (split_is_pace from 1 positive (omega arith)) h 0 (omega arith) in
+    subst (λ (c : Class). HoldsSum streams cells from node (record { form = s.form; class = c; lag = s.lag })) (sym class) (subst (λ (n : ℕ). HoldsSum streams cells from node (record { form = s.form; class = every; lag = n })) one held)
 
 only_one : (P : HeldSum → Type 0) (s : HeldSum) (j : ℕ) (t : HeldSum) → slice_get (s ∷ []) j ≡ Some t → P s → P t
 only_one P s zero t is p = let same : s ≡ t = cc in subst P same p
@@ -75,8 +56,8 @@ stage_register streams cells from depth levels group kind number s node positive
   width = d.width;
   register = d.register;
   least = λ range tells. single_bits streams s d.width range tells d.is_class d.least;
-  holds = λ i t is. only_one (HoldsSum streams cells from node) s i t is (holds_sum streams cells from s d.ticks node positive d.is_lag d.holds);
-  kept_whole = kept_whole streams cells from s.form d.ticks node positive d.holds;
+  holds = λ i t is. only_one (HoldsSum streams cells from node) s i t is (holds_sum streams cells from s d.ticks node positive d.is_class d.is_lag d.holds);
+  kept_whole = kept_whole streams cells from s.form d.ticks node d.holds;
 }
 
 timely : (facts : StageFacts) (streams : Streams) (cells : List Cell) (from : Stream) (depth levels group : ℕ) (kind : NameKind) (number : ℕ) (s : HeldSum) (node : Node) → IsDue streams cells from depth levels group (name_of group kind number) s node
@@ -132,7 +113,7 @@ no_part counted = record {
 }
 
 -- the registers of a window
-module _ {old first : NetView} {new : List Cell} {from : Stream} {window : List Node} {values : List Held} {depth : ℕ} (streams : Streams) (levels : ℕ) (causal : AreCausal streams) (w : AddsWindow streams old first from window) (later : Extends first.cells new) (long : depth ≡ length window)
+module _ {old first : NetView} {new : List Cell} {from : Stream} {window : List Node} {values : List Held} {depth : ℕ} (streams : Streams) (levels : ℕ) (causal : AreCausal streams) (positive : 1 ≤ from.period) (w : AddsWindow streams old first from window) (later : Extends first.cells new) (long : depth ≡ length window)
     (values_held : AreHeld streams (window_sums depth) values) where
   same_sum : (k : ℕ) (x y : HeldSum) → slice_get (window_sums depth) k ≡ Some x → slice_get (window_sums depth) k ≡ Some y → x ≡ y
   same_sum k x y p q = cc
@@ -151,7 +132,7 @@ module _ {old first : NetView} {new : List Cell} {from : Stream} {window : List 
         let range : IsRange streams (unit_form k) every own.0.range = subst (λ (f : List ℤ). IsRange streams f every own.0.range) form (values_held.each k own.0 own.1) in
         subst (λ (n : ℕ). IsDue streams new from (length window) levels old.group (name_of old.group Window n) h node) from_none
         (subst (λ (z : HeldSum). IsDue streams new from (length window) levels old.group (name_of old.group Window k) z node) (sym e)
-        (IsDue-later later (window_due streams levels causal w k node there own.0.range range)));
+        (IsDue-later later (window_due streams levels causal positive w k node there own.0.range range)));
     counted = subst (λ (n : ℕ). IsCounted new old.group Window n) (sym long ∙ sym (length-window_sums depth)) counted;
   }
 
