@@ -19,6 +19,7 @@ pub mod ListLemmas
 pub mod PeakLemmas
 pub mod PhaseWidthLemmas
 pub mod PhaseDueLemmas
+pub mod RegisteredLemmas
 pub mod FormTreeLemmas
 pub mod OnePhaseLemmas
 pub mod CarryLemmas

@@ -8,6 +8,7 @@ pub mod Held
 pub mod Peaks
 pub mod FormSums
 pub mod PhaseSums
+pub mod Registered
 pub mod Cutting
 pub mod Readers
 pub mod Sums
