@@ -64,13 +64,13 @@ term_sum-ages n f ts h = sym (term_sum-spread f (ages n) ts) ∙ ap (term_sum f)
 
 -- ---- the window's registers
 
-pub window_shown : {cells : List Cell} {from : Stream} {window : List Node} (streams : Streams) → AreCausal streams → (depth : ℕ) → depth ≡ length window → IsCutWindow streams cells from window → AreShown streams cells from (ages depth) 0 window
-window_shown {cells} {from} {window} streams causal depth long w = record {
+pub window_shown : {cells : List Cell} {from : Stream} {window : List Node} (streams : Streams) → AreCausal streams → 1 ≤ from.period → (depth : ℕ) → depth ≡ length window → IsCutWindow streams cells from window → AreShown streams cells from (ages depth) 0 window
+window_shown {cells} {from} {window} streams causal positive depth long w = record {
   many = sym long ∙ sym (length-ages depth);
   each = λ age node is.
       let inside = slice_get_within window age node is in
       subst (λ (r : Reading). HoldsForm streams cells from (reading_form r) 0 node) (sym (ages-or depth age (One 0) (omega (arith, inside, long))))
-      (window_holds streams causal w age node is (reading_form (One age)) (λ f. weighted_sum-reading (One age) f));
+      (window_holds streams causal positive w age node is (reading_form (One age)) (λ f. weighted_sum-reading (One age) f));
 }
 
 -- no wider than the value that they show needs

@@ -36,6 +36,7 @@ use Rattle.fir_pieces.specs.Held.{IsFormWidth}
 use Rattle.fir_pieces.specs.Peaks.{HoldsForm, IsDue}
 use Rattle.fir_pieces.specs.Sums.{AreShown, AddsTree}
 use Rattle.fir_pieces.proofs.HeldLemmas.{held_is, held_early, sum_is, sums_fit, segment-leaves, delayed_later, delayed_early, taken_value-stream}
+use Rattle.fir_pieces.proofs.MomentLemmas.{HoldsForm-by}
 use Rattle.fir_pieces.proofs.ReadingLemmas.{shown_by, within_spread}
 use Rattle.fir_pieces.proofs.SumLemmas.{stands}
 use Rattle.fir_pieces.proofs.UnitLemmas.{short_weights, unit_form-sum, length-unit_form, unit_form-width}
@@ -78,7 +79,7 @@ IsDue-soon e d = record {
 
 -- ---- what a tree's registers hold
 
-segment_places : (depth level j : ℕ) (terms : List Term) → All (λ (u : Term). u.index < depth) terms → All (λ (u : Term). u.index < depth) (term_segment level j terms)
+pub segment_places : (depth level j : ℕ) (terms : List Term) → All (λ (u : Term). u.index < depth) terms → All (λ (u : Term). u.index < depth) (term_segment level j terms)
 segment_places depth level j terms places = All-take (λ (u : Term). u.index < depth) (2 ^ level) (drop (j * 2 ^ level) terms) (All-drop (λ (u : Term). u.index < depth) (j * 2 ^ level) terms places)
 
 pub AreShown-later : {streams : Streams} {old new : List Cell} {from : Stream} {readings : List Reading} {ticks : ℕ} {nodes : List Node} → Extends old new → AreShown streams old from readings ticks nodes → AreShown streams new from readings ticks nodes
@@ -91,18 +92,18 @@ module _ {mid new : NetView} {from : Stream} {nodes : List Node} {readings : Lis
 
   tree_holds : (level j : ℕ) (node : Node) → level < levels → j < level_count (length terms) (suc level) → slice_get registers (count_to (length terms) level + j) ≡ Some node
       → HoldsForm streams new.cells from (form_of readings (term_segment (suc level) j terms)) (ticks + suc level) node
-  tree_holds level j node low within is = record {
-    early = λ cut law x values v in_streams run carried t early.
-        held_at cut law x values v in_streams run carried t
-        ∙ delayed_early (suc level) ticks t (λ s. held_sum values s (segment (suc level) j leaves))
-        (λ s soon. ap (held_sum values s) (segment-leaves nodes (suc level) j terms) ∙ held_early streams causal positive later cut law x values run v in_streams carried part part_places s soon) early;
-    late = λ cut law x values v in_streams run carried s count is_taken.
-        let tick : s + (ticks + suc level) ≡ s + ticks + suc level = omega arith in
-        ap (λ (n : ℕ). values n node.place) tick
-        ∙ held_at cut law x values v in_streams run carried (s + ticks + suc level) ∙ delayed_later (suc level) (s + ticks) (λ u. held_sum values u (segment (suc level) j leaves))
-        ∙ ap (held_sum values (s + ticks)) (segment-leaves nodes (suc level) j terms)
-        ∙ held_is streams causal positive later cut law x values run v in_streams carried part part_places s count is_taken;
-  }
+  tree_holds level j node low within is =
+      HoldsForm-by streams new.cells from (form_of readings part) (ticks + suc level) node positive
+      (λ cut law x values v in_streams run carried t early.
+      held_at cut law x values v in_streams run carried t
+      ∙ delayed_early (suc level) ticks t (λ s. held_sum values s (segment (suc level) j leaves))
+      (λ s soon. ap (held_sum values s) (segment-leaves nodes (suc level) j terms) ∙ held_early streams causal positive later cut law x values run v in_streams carried part part_places s soon) early)
+      (λ cut law x values v in_streams run carried s count is_taken.
+      let tick : s + (ticks + suc level) ≡ s + ticks + suc level = omega arith in
+      ap (λ (n : ℕ). values n node.place) tick
+      ∙ held_at cut law x values v in_streams run carried (s + ticks + suc level) ∙ delayed_later (suc level) (s + ticks) (λ u. held_sum values u (segment (suc level) j leaves))
+      ∙ ap (held_sum values (s + ticks)) (segment-leaves nodes (suc level) j terms)
+      ∙ held_is streams causal positive later cut law x values run v in_streams carried part part_places s count is_taken)
     where
       leaves : List Leaf
       leaves = map (leaf_of nodes) terms
@@ -162,21 +163,20 @@ module _ {mid new : NetView} {from : Stream} {nodes : List Node} {readings : Lis
 -- ---- the window
 
 -- a register of a window holds the value that came so many values before
-pub window_holds : {cells : List Cell} {from : Stream} {window : List Node} (streams : Streams) → AreCausal streams → IsCutWindow streams cells from window → (age : ℕ) (node : Node) → slice_get window age ≡ Some node → (form : List ℤ) → ((f : ℕ → ℤ) → weighted_sum form f ≡ f age) → HoldsForm streams cells from form 0 node
-window_holds {cells} {from} {window} streams causal w age node is form alone = record {
-  early = λ cut law x values v is_one run carried t h. absurd (omega arith);
-  late = λ cut law x values v is_one run carried s count is_taken.
-      let none : s + 0 ≡ s = omega arith in
-      let taken' : HasTaken w.taken.period w.taken.offset count s = subst (λ (p : ℕ). HasTaken p w.taken.offset count s) (sym w.period) (subst (λ (o : ℕ). HasTaken from.period o count s) (sym w.offset) is_taken) in
-      ap (λ (n : ℕ). values n node.place) none
-      ∙ (w.holds age node is).holds cut law x values run s count taken'
-      ∙ taken_value-stream (shown values w.taken) v (w.carries cut law x values v is_one run carried) (λ n. causal.each v is_one n) count age
-      ∙ sym (alone (λ i. v (pos count -ℤ pos 1 -ℤ pos i)));
-}
+pub window_holds : {cells : List Cell} {from : Stream} {window : List Node} (streams : Streams) → AreCausal streams → 1 ≤ from.period → IsCutWindow streams cells from window → (age : ℕ) (node : Node) → slice_get window age ≡ Some node → (form : List ℤ) → ((f : ℕ → ℤ) → weighted_sum form f ≡ f age) → HoldsForm streams cells from form 0 node
+window_holds {cells} {from} {window} streams causal positive w age node is form alone =
+    HoldsForm-by streams cells from form 0 node positive (λ cut law x values v is_one run carried t h. absurd (omega arith))
+    (λ cut law x values v is_one run carried s count is_taken.
+    let none : s + 0 ≡ s = omega arith in
+    let taken' : HasTaken w.taken.period w.taken.offset count s = subst (λ (p : ℕ). HasTaken p w.taken.offset count s) (sym w.period) (subst (λ (o : ℕ). HasTaken from.period o count s) (sym w.offset) is_taken) in
+    ap (λ (n : ℕ). values n node.place) none
+    ∙ (w.holds age node is).holds cut law x values run s count taken'
+    ∙ taken_value-stream (shown values w.taken) v (w.carries cut law x values v is_one run carried) (λ n. causal.each v is_one n) count age
+    ∙ sym (alone (λ i. v (pos count -ℤ pos 1 -ℤ pos i))))
 
-pub window_due : {old new : NetView} {from : Stream} {window : List Node} (streams : Streams) (levels : ℕ) → AreCausal streams → AddsWindow streams old new from window
+pub window_due : {old new : NetView} {from : Stream} {window : List Node} (streams : Streams) (levels : ℕ) → AreCausal streams → 1 ≤ from.period → AddsWindow streams old new from window
     → (age : ℕ) (node : Node) → slice_get window age ≡ Some node → (range : Range) → IsRange streams (unit_form age) every range → IsDue streams new.cells from (length window) levels old.group (name_of old.group Window age) (window_sum age) node
-window_due {old} {new} {from} {window} streams levels causal w age node is range known =
+window_due {old} {new} {from} {window} streams levels causal positive w age node is range known =
     let inside = slice_get_within window age node is in
     record {
       width = w.wide.width;
@@ -186,6 +186,6 @@ window_due {old} {new} {from} {window} streams levels causal w age node is range
       ticks = 0;
       is_lag = refl;
       soon = omega arith;
-      holds = window_holds streams causal w.window age node is (unit_form age) (unit_form-sum age);
+      holds = window_holds streams causal positive w.window age node is (unit_form age) (unit_form-sum age);
       least = unit_form-width streams causal age w.wide.width w.wide.least range known;
     }

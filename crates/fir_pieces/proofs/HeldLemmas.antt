@@ -32,12 +32,13 @@ use Rattle.fir_pieces.specs.Readers.{at_node}
 use Rattle.fir_pieces.specs.Sums.{AreShown}
 use Rattle.fir_pieces.specs.Held.{IsFormWidth, AreTreeWidths}
 use Rattle.fir_pieces.proofs.FormLemmas.{weighted_sum-with_terms, weighted_sum-replicate, signed_times}
+use Rattle.fir_pieces.proofs.MomentLemmas.{HoldsForm-late}
 use Rattle.fir_pieces.proofs.PlaceLemmas.{below_reach}
 use Rattle.fir_pieces.proofs.ReadingLemmas.{shown_by, term_sum-terms_at, term_sum-spread}
 
 -- ---- leaves are terms
 
-one_leaf : (m : Bool) (x : ℤ) (n : ℕ) → signed_by m (x *ℤ pos n) ≡ with_sign m n *ℤ x
+pub one_leaf : (m : Bool) (x : ℤ) (n : ℕ) → signed_by m (x *ℤ pos n) ≡ with_sign m n *ℤ x
 one_leaf true x n = ap neg_ℤ (*ℤ_comm x (pos n)) ∙ sym (signed_times true (pos n) x)
 one_leaf false x n = *ℤ_comm x (pos n)
 
@@ -99,7 +100,7 @@ between w lo z hi l h p q = record { low = let a = l.low in omega (arith, ints);
 
 -- ---- sums of a form over a stream, before each of its values and before the first
 
-weighted_sum-nothing : (cs : List ℤ) → weighted_sum cs (λ i. pos 0) ≡ pos 0
+pub weighted_sum-nothing : (cs : List ℤ) → weighted_sum cs (λ i. pos 0) ≡ pos 0
 weighted_sum-nothing [] = refl
 weighted_sum-nothing (c ∷ cs) = omega (arith, ints, weighted_sum-nothing cs)
 
@@ -126,7 +127,7 @@ module _ {cells : List Cell} {from : Stream} {readings : List Reading} {ticks : 
   -- the node's value, so many ticks after a tick before which so many values were taken
   node_is : (s count : ℕ) → HasTaken from.period from.offset count s → (i : ℕ) → i < length readings → at_node values (s + ticks) nodes i ≡ shown_by readings (λ k. v (pos count -ℤ pos 1 -ℤ pos k)) i
   node_is s count h i inside =
-      (shown.each i (get_or nodes i (record { place = 0 })) (node_there i inside)).late cut law inputs values v is_one run carried s count h
+      HoldsForm-late streams cells from (reading_form (reading_at readings i)) ticks (get_or nodes i (record { place = 0 })) positive (shown.each i (get_or nodes i (record { place = 0 })) (node_there i inside)) cut law inputs values v is_one run carried s count h
       ∙ weighted_sum-reading (reading_at readings i) (λ k. v (pos count -ℤ pos 1 -ℤ pos k))
 
   node_early : (t : ℕ) → t < ticks → (i : ℕ) → i < length readings → at_node values t nodes i ≡ pos 0

@@ -15,18 +15,15 @@ use Rattle.net_graph.specs.declared.name.NameKind.{NameKind}
 use Rattle.net_graph.specs.declared.name.NameKind.TheVariants.{Control, Window, Copy, PreAdder, Register, Table, Output, Valid}
 use Rattle.net_graph.specs.Cells.{NetView}
 use Rattle.net_graph.specs.Grow.{Extends}
-use Rattle.net_graph.specs.Cut.{cut_all, cut_control}
 use Rattle.net_graph.specs.WellFormed.{IsFree}
-use Rattle.net_graph.proofs.CutLemmas.{IsCut-all, IsCut-control}
-use Rattle.pipeline_balance.specs.Gate.{HasTaken}
 use Rattle.pipeline_balance.specs.Numbered.{IsCounted, LeavesFree, IsTouched, name_of}
 use Rattle.pipeline_balance.proofs.TakenLemmas.{taken}
 use Rattle.plan_check.specs.Costs.{gcd}
 use Rattle.plan_check.proofs.Divisors.{IsGcd-gcd}
 use Rattle.stage_law.specs.Facts.{StageFacts}
-use Rattle.stage_law.specs.Least.{IsKeptWhole, HoldsSum, HasStageRegister, IsListed, IsTimely, HasRegisters, named_peak}
+use Rattle.stage_law.specs.Least.{IsKeptWhole, HoldsSum, HasStageRegister, IsTimely, HasRegisters, named_peak}
 use Rattle.stage_law.specs.Realises.{IsOwnName, IsUnused}
-use Rattle.stage_law.specs.Registers.{HeldSum, StageRegister, Telling, TellsRanges, NamedPeak, peaks_of}
+use Rattle.stage_law.specs.Registers.{HeldSum, StageRegister, Telling, TellsRanges, peaks_of}
 use Rattle.stage_law.specs.Streams.{Streams, AreCausal, magnitudes}
 use Rattle.stage_law.specs.Weights.{weights_of}
 use Rattle.stage_law.specs.Range.{IsRange}
@@ -38,36 +35,25 @@ use Rattle.fir_pieces.specs.Held.{AreHeld, held_sum}
 use Rattle.fir_pieces.specs.Cutting.{AddsWindow}
 use Rattle.fir_pieces.specs.Peaks.{HoldsForm, IsDue, peaks_at}
 use Rattle.fir_pieces.proofs.DueLemmas.{IsDue-later, window_due}
-use Rattle.fir_pieces.proofs.ListLemmas.{length-window_sums, window_sums-at, single, each_numbered, each_appended, listed_numbered, listed_left, listed_right}
-use Rattle.fir_pieces.proofs.PeakLemmas.{single_bits, named-peaks_at, peaks_of-append}
+use Rattle.fir_pieces.proofs.ListLemmas.{length-window_sums, window_sums-at, single, each_numbered, listed_numbered}
+use Rattle.fir_pieces.proofs.PaceLemmas.{split_is_pace}
+use Rattle.fir_pieces.proofs.PhaseDueLemmas.{holds_phase, forms_whole}
+use Rattle.fir_pieces.proofs.PeakLemmas.{single_bits, named-peaks_at}
+use Rattle.fir_pieces.specs.Registered.{AreCounted, AreRegisters}
+use Rattle.fir_pieces.proofs.RegisteredLemmas.{AreCounted-left, AreCounted-none, AreCounted-right, AreRegisters-append, HasRegisters-of}
 use Rattle.fir_pieces.proofs.WidthsLemmas.{AreHeld-none, slice_get_some, slice_get_mapped}
 
 -- ---- one register
 
 -- one value in both runs
-kept_whole : (streams : Streams) (cells : List Cell) (from : Stream) (form : List ℤ) (ticks : ℕ) (node : Node) → 1 ≤ from.period → HoldsForm streams cells from form ticks node → IsKeptWhole streams cells from node
-kept_whole streams cells from form ticks node positive h = record {
-  same = λ x values whole v is run uncut carried carried' t. elim (cases_lt t ticks) [
-    | inl soon ↦ h.early cut_all IsCut-all x values v is run carried t soon ∙ sym (h.early cut_control IsCut-control x whole v is uncut carried' t soon)
-    | inr later ↦
-        let s = t - ticks in
-        let tick : s + ticks ≡ t = omega arith in
-        let before = taken from.period from.offset s positive in
-        ap (λ (n : ℕ). values n node.place) (sym tick) ∙ h.late cut_all IsCut-all x values v is run carried s before.0 before.1
-        ∙ sym (h.late cut_control IsCut-control x whole v is uncut carried' s before.0 before.1) ∙ ap (λ (n : ℕ). whole n node.place) tick
-  ];
-}
+kept_whole : (streams : Streams) (cells : List Cell) (from : Stream) (form : List ℤ) (ticks : ℕ) (node : Node) → HoldsForm streams cells from form ticks node → IsKeptWhole streams cells from node
+kept_whole streams cells from form ticks node h = forms_whole streams h
 
-holds_sum : (streams : Streams) (cells : List Cell) (from : Stream) (s : HeldSum) (ticks : ℕ) (node : Node) → 1 ≤ from.period → s.lag ≡ suc ticks → HoldsForm streams cells from s.form ticks node → HoldsSum streams cells from node s
-holds_sum streams cells from s ticks node positive lag h = record {
-  at = λ cut law x values v is run carried k in_class.
-      let t = suc (from.offset + k * from.period) in
-      let tick : from.offset + k * from.period + s.lag ≡ t + ticks = omega (arith, lag) in
-      let at : (i : ℕ) → pos (suc k) -ℤ pos 1 -ℤ pos i ≡ pos k -ℤ pos i = λ i. omega (arith, ints) in
-      let now : HasTaken from.period from.offset (suc k) t = (omega arith, omega arith) in
-      ap (λ (n : ℕ). values n node.place) tick ∙ h.late cut law x values v is run carried t (suc k) now
-      ∙ weighted_sum-same s.form (λ i. v (pos (suc k) -ℤ pos 1 -ℤ pos i)) (λ i. v (pos k -ℤ pos i)) (λ i. ap v (at i));
-}
+holds_sum : (streams : Streams) (cells : List Cell) (from : Stream) (s : HeldSum) (ticks : ℕ) (node : Node) → 1 ≤ from.period → s.class ≡ every → s.lag ≡ suc ticks → HoldsForm streams cells from s.form ticks node → HoldsSum streams cells from node s
+holds_sum streams cells from s ticks node positive class lag h =
+    let one : 1 + ticks ≡ s.lag = omega (arith, lag) in
+    let held = holds_phase {forms = λ φ. s.form} streams (split_is_pace from 1 positive (omega arith)) h 0 (omega arith) in
+    subst (λ (c : Class). HoldsSum streams cells from node (record { form = s.form; class = c; lag = s.lag })) (sym class) (subst (λ (n : ℕ). HoldsSum streams cells from node (record { form = s.form; class = every; lag = n })) one held)
 
 only_one : (P : HeldSum → Type 0) (s : HeldSum) (j : ℕ) (t : HeldSum) → slice_get (s ∷ []) j ≡ Some t → P s → P t
 only_one P s zero t is p = let same : s ≡ t = cc in subst P same p
@@ -79,8 +65,8 @@ stage_register streams cells from depth levels group kind number s node positive
   width = d.width;
   register = d.register;
   least = λ range tells. single_bits streams s d.width range tells d.is_class d.least;
-  holds = λ i t is. only_one (HoldsSum streams cells from node) s i t is (holds_sum streams cells from s d.ticks node positive d.is_lag d.holds);
-  kept_whole = kept_whole streams cells from s.form d.ticks node positive d.holds;
+  holds = λ i t is. only_one (HoldsSum streams cells from node) s i t is (holds_sum streams cells from s d.ticks node positive d.is_class d.is_lag d.holds);
+  kept_whole = kept_whole streams cells from s.form d.ticks node d.holds;
 }
 
 -- all that a stage takes in a round, as values of every index
@@ -144,7 +130,7 @@ no_part counted = record {
 }
 
 -- the registers of a window
-module _ {old first : NetView} {new : List Cell} {from : Stream} {window : List Node} {values : List Held} {depth : ℕ} (streams : Streams) (levels : ℕ) (causal : AreCausal streams) (w : AddsWindow streams old first from window) (later : Extends first.cells new) (long : depth ≡ length window)
+module _ {old first : NetView} {new : List Cell} {from : Stream} {window : List Node} {values : List Held} {depth : ℕ} (streams : Streams) (levels : ℕ) (causal : AreCausal streams) (positive : 1 ≤ from.period) (w : AddsWindow streams old first from window) (later : Extends first.cells new) (long : depth ≡ length window)
     (values_held : AreHeld streams (window_sums depth) values) where
   same_sum : (k : ℕ) (x y : HeldSum) → slice_get (window_sums depth) k ≡ Some x → slice_get (window_sums depth) k ≡ Some y → x ≡ y
   same_sum k x y p q = cc
@@ -163,51 +149,21 @@ module _ {old first : NetView} {new : List Cell} {from : Stream} {window : List 
         let range : IsRange streams (unit_form k) every own.0.range = subst (λ (f : List ℤ). IsRange streams f every own.0.range) form (values_held.each k own.0 own.1) in
         subst (λ (n : ℕ). IsDue streams new from (length window) levels old.group (name_of old.group Window n) h node) from_none
         (subst (λ (z : HeldSum). IsDue streams new from (length window) levels old.group (name_of old.group Window k) z node) (sym e)
-        (IsDue-later later (window_due streams levels causal w k node there own.0.range range)));
+        (IsDue-later later (window_due streams levels causal positive w k node there own.0.range range)));
     counted = subst (λ (n : ℕ). IsCounted new old.group Window n) (sym long ∙ sym (length-window_sums depth)) counted;
   }
 
-module _ {streams : Streams} {cells : List Cell} {group : ℕ} {from : Stream} {depth levels : ℕ} {windows readers others : List HeldSum} {window reader_nodes registers : List Node} {values reader_held held : List Held} (before : List Cell) (positive : 1 ≤ from.period)
-    (w : IsPart streams cells group from depth levels Window windows window values) (p : IsPart streams cells group from depth levels PreAdder readers reader_nodes reader_held) (o : IsPart streams cells group from depth levels Register others registers held)
-    (names : LeavesFree before cells (IsOwn group)) (unused : IsUnused before group) where
-  each_of : (P : StageRegister → Type 0) → ((kind : NameKind) (number : ℕ) (s : HeldSum) (node : Node) → IsDue streams cells from depth levels group (name_of group kind number) s node → P (single kind number s))
-      → {kind : NameKind} {sums : List HeldSum} {nodes : List Node} {own : List Held} → IsPart streams cells group from depth levels kind sums nodes own → (i : ℕ) (r : StageRegister) → slice_get (numbered kind 0 sums) i ≡ Some r → P r
-  each_of P h {kind} {sums} {nodes} part = each_numbered P kind 0 sums (λ k s is.
+-- a part's registers hold their sums in time, and their peaks are its own
+module _ {streams : Streams} {cells : List Cell} {group : ℕ} {from : Stream} {depth levels : ℕ} {kind : NameKind} {sums : List HeldSum} {nodes : List Node} {own : List Held} (positive : 1 ≤ from.period) (part : IsPart streams cells group from depth levels kind sums nodes own) where
+  each_due : (P : StageRegister → Type 0) → ((k : ℕ) (s : HeldSum) (node : Node) → IsDue streams cells from depth levels group (name_of group kind (0 + k)) s node → P (single kind (0 + k) s)) → (i : ℕ) (r : StageRegister) → slice_get (numbered kind 0 sums) i ≡ Some r → P r
+  each_due P h = each_numbered P kind 0 sums (λ k s is.
       let inside = slice_get_within sums k s is in
       let many = part.many in
       let node = slice_get_some nodes k (omega (arith, inside, many)) in
-      h kind (0 + k) s node.0 (part.due k s node.0 is node.1))
+      h k s node.0 (part.due k s node.0 is node.1))
 
-  each_due : (P : StageRegister → Type 0) → ((kind : NameKind) (number : ℕ) (s : HeldSum) (node : Node) → IsDue streams cells from depth levels group (name_of group kind number) s node → P (single kind number s))
-      → (i : ℕ) (r : StageRegister) → slice_get (numbered Window 0 windows ++ (numbered PreAdder 0 readers ++ numbered Register 0 others)) i ≡ Some r → P r
-  each_due P h = each_appended P (numbered Window 0 windows) (numbered PreAdder 0 readers ++ numbered Register 0 others) (each_of P h w) (each_appended P (numbered PreAdder 0 readers) (numbered Register 0 others) (each_of P h p) (each_of P h o))
-
-  free_kind : (kind : NameKind) (number : ℕ) → (kind ≡ Window → ⊥) → (kind ≡ PreAdder → ⊥) → (kind ≡ Register → ⊥) → (kind ≡ Control → ⊥) → IsFree before (name_of group kind number) → IsFree cells (name_of group kind number)
-  free_kind kind number a b c d f = names.free (name_of group kind number) (no_touch group kind number a b c d) f
-
-  -- a name of the group that is taken is listed
-  taken_name : (kind : NameKind) (number : ℕ) → (kind ≡ Control → ⊥) → (IsFree cells (name_of group kind number) → ⊥) → IsListed (numbered Window 0 windows ++ (numbered PreAdder 0 readers ++ numbered Register 0 others)) kind number
-  taken_name Control number apart used = absurd (apart refl)
-  taken_name Window number apart used = elim (cases_lt number (length windows)) [
-    | inl less ↦ listed_left (numbered Window 0 windows) (numbered PreAdder 0 readers ++ numbered Register 0 others) (listed_numbered Window windows number less)
-    | inr more ↦ absurd (used (w.counted.free number more))
-  ]
-  taken_name PreAdder number apart used = elim (cases_lt number (length readers)) [
-    | inl less ↦ listed_right (numbered Window 0 windows) (numbered PreAdder 0 readers ++ numbered Register 0 others) (listed_left (numbered PreAdder 0 readers) (numbered Register 0 others) (listed_numbered PreAdder readers number less))
-    | inr more ↦ absurd (used (p.counted.free number more))
-  ]
-  taken_name Register number apart used = elim (cases_lt number (length others)) [
-    | inl less ↦ listed_right (numbered Window 0 windows) (numbered PreAdder 0 readers ++ numbered Register 0 others) (listed_right (numbered PreAdder 0 readers) (numbered Register 0 others) (listed_numbered Register others number less))
-    | inr more ↦ absurd (used (o.counted.free number more))
-  ]
-  taken_name Copy number apart used = absurd (used (free_kind Copy number (λ e. absurd (cc)) (λ e. absurd (cc)) (λ e. absurd (cc)) (λ e. absurd (cc)) (unused.free Copy number)))
-  taken_name Table number apart used = absurd (used (free_kind Table number (λ e. absurd (cc)) (λ e. absurd (cc)) (λ e. absurd (cc)) (λ e. absurd (cc)) (unused.free Table number)))
-  taken_name Output number apart used = absurd (used (free_kind Output number (λ e. absurd (cc)) (λ e. absurd (cc)) (λ e. absurd (cc)) (λ e. absurd (cc)) (unused.free Output number)))
-  taken_name Valid number apart used = absurd (used (free_kind Valid number (λ e. absurd (cc)) (λ e. absurd (cc)) (λ e. absurd (cc)) (λ e. absurd (cc)) (unused.free Valid number)))
-
-  -- the peaks of one part of the list
-  part_peaks : (range : Telling) → TellsRanges streams range → {kind : NameKind} {sums : List HeldSum} {nodes : List Node} {own : List Held} → IsPart streams cells group from depth levels kind sums nodes own → map (named_peak cells) (peaks_at own nodes) ≡ peaks_of range group (numbered kind 0 sums)
-  part_peaks range tells {kind} {sums} {nodes} {own} part =
+  part_peaks : (range : Telling) → TellsRanges streams range → map (named_peak cells) (peaks_at own nodes) ≡ peaks_of range group (numbered kind 0 sums)
+  part_peaks range tells =
       let many = part.many in
       let same : length own ≡ length sums = sym (length-map own held_sum) ∙ ap length part.are_held.same in
       named-peaks_at streams range tells cells group kind 0 own nodes (omega (arith, many, same)) part.are_held.each
@@ -217,31 +173,43 @@ module _ {streams : Streams} {cells : List Cell} {group : ℕ} {from : Stream} {
       let d = part.due k s.0 node s.1 there in (d.width, d.register))
       ∙ ap (λ (ss : List HeldSum). peaks_of range group (numbered kind 0 ss)) part.are_held.same
 
+  pub part_registers : (facts : StageFacts) → suc levels ≤ from.period + facts.delay from.period → depth ≤ facts.longest → AreRegisters facts streams cells group from (numbered kind 0 sums) (peaks_at own nodes)
+  part_registers facts soon few = record {
+    some = each_due (λ (r : StageRegister). 1 ≤ length r.sums) (λ k s node d. omega arith);
+    timely = λ i j r s there at small.
+        each_due (λ (r : StageRegister). (j : ℕ) (s : HeldSum) → slice_get r.sums j ≡ Some s → magnitudes s.form ≤ max 1 (2 * facts.gain) → IsTimely facts from.period s)
+        (λ k s node d j t at.
+        only_one (λ (h : HeldSum). magnitudes h.form ≤ max 1 (2 * facts.gain) → IsTimely facts from.period h) s j t at (timely facts streams cells from depth levels group kind (0 + k) s node d soon few))
+        i r there j s at small;
+    each = each_due (HasStageRegister streams cells group from) (λ k s node d. stage_register streams cells from depth levels group kind (0 + k) s node positive d);
+    told = part_peaks;
+  }
+
+  pub part_counted : AreCounted cells group (numbered kind 0 sums) kind
+  part_counted = record { count = length sums; counted = part.counted; listed = λ number less. listed_numbered kind sums number less }
+
+module _ {streams : Streams} {cells : List Cell} {group : ℕ} {from : Stream} {depth levels : ℕ} {windows readers others : List HeldSum} {window reader_nodes registers : List Node} {values reader_held held : List Held} (before : List Cell) (positive : 1 ≤ from.period)
+    (w : IsPart streams cells group from depth levels Window windows window values) (p : IsPart streams cells group from depth levels PreAdder readers reader_nodes reader_held) (o : IsPart streams cells group from depth levels Register others registers held)
+    (names : LeavesFree before cells (IsOwn group)) (unused : IsUnused before group) where
+  -- no register is of another kind
+  no_other : (kind : NameKind) → ((number : ℕ) → IsFree before (name_of group kind number)) → (kind ≡ Window → ⊥) → (kind ≡ PreAdder → ⊥) → (kind ≡ Register → ⊥) → (kind ≡ Control → ⊥) → AreCounted cells group (numbered Window 0 windows ++ (numbered PreAdder 0 readers ++ numbered Register 0 others)) kind
+  no_other kind free a b c d =
+      AreCounted-none (numbered Window 0 windows ++ (numbered PreAdder 0 readers ++ numbered Register 0 others))
+      (record { used = λ number less f. absurd (omega arith); free = λ number more. names.free (name_of group kind number) (no_touch group kind number a b c d) (free number) })
+
+  of_kind : (kind : NameKind) → (kind ≡ Control → ⊥) → AreCounted cells group (numbered Window 0 windows ++ (numbered PreAdder 0 readers ++ numbered Register 0 others)) kind
+  of_kind Control apart = absurd (apart refl)
+  of_kind Window apart = AreCounted-left (numbered Window 0 windows) (numbered PreAdder 0 readers ++ numbered Register 0 others) (part_counted positive w)
+  of_kind PreAdder apart = AreCounted-right (numbered Window 0 windows) (numbered PreAdder 0 readers ++ numbered Register 0 others) (AreCounted-left (numbered PreAdder 0 readers) (numbered Register 0 others) (part_counted positive p))
+  of_kind Register apart = AreCounted-right (numbered Window 0 windows) (numbered PreAdder 0 readers ++ numbered Register 0 others) (AreCounted-right (numbered PreAdder 0 readers) (numbered Register 0 others) (part_counted positive o))
+  of_kind Copy apart = no_other Copy (λ number. unused.free Copy number) (λ e. absurd (cc)) (λ e. absurd (cc)) (λ e. absurd (cc)) (λ e. absurd (cc))
+  of_kind Table apart = no_other Table (λ number. unused.free Table number) (λ e. absurd (cc)) (λ e. absurd (cc)) (λ e. absurd (cc)) (λ e. absurd (cc))
+  of_kind Output apart = no_other Output (λ number. unused.free Output number) (λ e. absurd (cc)) (λ e. absurd (cc)) (λ e. absurd (cc)) (λ e. absurd (cc))
+  of_kind Valid apart = no_other Valid (λ number. unused.free Valid number) (λ e. absurd (cc)) (λ e. absurd (cc)) (λ e. absurd (cc)) (λ e. absurd (cc))
+
   pub has_registers : (facts : StageFacts) → facts.registers from.period ≡ numbered Window 0 windows ++ (numbered PreAdder 0 readers ++ numbered Register 0 others) → suc levels ≤ from.period + facts.delay from.period → depth ≤ facts.longest
       → ((i j : ℕ) (r : StageRegister) (s : HeldSum) → slice_get (facts.registers from.period) i ≡ Some r → slice_get r.sums j ≡ Some s → magnitudes s.form ≤ max 1 (2 * facts.gain)) → (peaks : List Peak) → peaks ≡ peaks_at values window ++ (peaks_at reader_held reader_nodes ++ peaks_at held registers)
       → HasRegisters facts streams cells group from peaks
-  has_registers facts e soon few small peaks is = record {
-    some = λ i r there. each_due (λ r. 1 ≤ length r.sums) (λ kind number s node d. omega arith) i r (in_list i r there);
-    timely = λ i j r s there at.
-        each_due (λ r. (j : ℕ) (s : HeldSum) → slice_get r.sums j ≡ Some s → magnitudes s.form ≤ max 1 (2 * facts.gain) → IsTimely facts from.period s)
-        (λ kind number s node d j t at.
-        only_one (λ (h : HeldSum). magnitudes h.form ≤ max 1 (2 * facts.gain) → IsTimely facts from.period h) s j t at (timely facts streams cells from depth levels group kind number s node d soon few))
-        i r (in_list i r there) j s at (small i j r s there at);
-    each = λ i r there. each_due (HasStageRegister streams cells group from) (λ kind number s node d. stage_register streams cells from depth levels group kind number s node positive d) i r (in_list i r there);
-    only = λ kind number apart used. subst (λ (rs : List StageRegister). IsListed rs kind number) (sym e) (taken_name kind number apart used);
-    told = λ range tells.
-        ap (map (named_peak cells)) is ∙ map-append (named_peak cells) (peaks_at values window) (peaks_at reader_held reader_nodes ++ peaks_at held registers)
-        ∙ ap (λ (ps : List NamedPeak). ps ++ map (named_peak cells) (peaks_at reader_held reader_nodes ++ peaks_at held registers)) (part_peaks range tells w)
-        ∙ ap (λ (ps : List NamedPeak). peaks_of range group (numbered Window 0 windows) ++ ps) (later range tells)
-        ∙ sym (peaks_of-append range group (numbered Window 0 windows) (numbered PreAdder 0 readers ++ numbered Register 0 others)) ∙ sym (ap (peaks_of range group) e);
-  }
-    where
-      in_list : (i : ℕ) (r : StageRegister) → slice_get (facts.registers from.period) i ≡ Some r → slice_get (numbered Window 0 windows ++ (numbered PreAdder 0 readers ++ numbered Register 0 others)) i ≡ Some r
-      in_list i r there = subst (λ (rs : List StageRegister). slice_get rs i ≡ Some r) e there
-
-      later : (range : Telling) → TellsRanges streams range → map (named_peak cells) (peaks_at reader_held reader_nodes ++ peaks_at held registers) ≡ peaks_of range group (numbered PreAdder 0 readers ++ numbered Register 0 others)
-      later range tells =
-          map-append (named_peak cells) (peaks_at reader_held reader_nodes) (peaks_at held registers)
-          ∙ ap (λ (ps : List NamedPeak). ps ++ map (named_peak cells) (peaks_at held registers)) (part_peaks range tells p)
-          ∙ ap (λ (ps : List NamedPeak). peaks_of range group (numbered PreAdder 0 readers) ++ ps) (part_peaks range tells o)
-          ∙ sym (peaks_of-append range group (numbered PreAdder 0 readers) (numbered Register 0 others))
+  has_registers facts e soon few small peaks is =
+      let all = AreRegisters-append (part_registers positive w facts soon few) (AreRegisters-append (part_registers positive p facts soon few) (part_registers positive o facts soon few)) in
+      subst (HasRegisters facts streams cells group from) (sym is) (HasRegisters-of facts streams cells group from (numbered Window 0 windows ++ (numbered PreAdder 0 readers ++ numbered Register 0 others)) (peaks_at values window ++ (peaks_at reader_held reader_nodes ++ peaks_at held registers)) e all of_kind small)

@@ -3,7 +3,11 @@ pub mod FormLemmas
 pub mod TermLemmas
 pub mod ReadingLemmas
 pub mod PlaceLemmas
+pub mod MomentLemmas
 pub mod HeldLemmas
+pub mod FormSumLemmas
+pub mod GiveLemmas
+pub mod PaceLemmas
 pub mod WidthsLemmas
 pub mod BoundLemmas
 pub mod SumLemmas
@@ -13,6 +17,12 @@ pub mod DueLemmas
 pub mod ReadersLemmas
 pub mod ListLemmas
 pub mod PeakLemmas
+pub mod PhaseWidthLemmas
+pub mod PhaseDueLemmas
+pub mod RegisteredLemmas
+pub mod FormTreeLemmas
+pub mod OnePhaseLemmas
+pub mod CarryLemmas
 pub mod LeastLemmas
 pub mod SilentLemmas
 pub mod ReadyLemmas

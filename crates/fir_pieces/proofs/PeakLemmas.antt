@@ -20,6 +20,7 @@ use Rattle.stage_law.specs.Range.{IsRange}
 use Rattle.stage_law.specs.Registers.{HeldSum, StageRegister, Telling, TellsRanges, NamedPeak, bits_for, bits_of, needing, needs_high, peak_at as listed_peak, peak_of, peaks_of}
 use Rattle.stage_law.specs.Streams.{Streams}
 use Rattle.stage_law.specs.Weights.{weights_of}
+use Rattle.stage_law.specs.declared.ranges.Class.{Class}
 use Rattle.stage_law.specs.declared.ranges.Range.{Range}
 use Rattle.stage_law.specs.declared.stage.Peak.{Peak}
 use Rattle.fir_pieces.specs.declared.held.Held.{Held}
@@ -34,8 +35,8 @@ between_same : (a b : ℤ) → a ≤ℤ b → b ≤ℤ a → a ≡ b
 between_same a b p q = omega (arith, ints)
 
 -- the range of a form's sums is one
-pub range_same : (streams : Streams) (form : List ℤ) (a b : Range) → IsRange streams form every a → IsRange streams form every b → a ≡ b
-range_same streams form a b p q =
+pub range_same : (streams : Streams) (form : List ℤ) (class : Class) (a b : Range) → IsRange streams form class a → IsRange streams form class b → a ≡ b
+range_same streams form class a b p q =
     let low : a.lo ≡ b.lo = between_same a.lo b.lo
     (subst (λ (z : ℤ). a.lo ≤ℤ z) q.low_reached.is (p.low q.low_reached.stream q.low_reached.is_one q.low_reached.index q.low_reached.in_class))
     (subst (λ (z : ℤ). b.lo ≤ℤ z) p.low_reached.is (q.low p.low_reached.stream p.low_reached.is_one p.low_reached.index p.low_reached.in_class)) in
@@ -44,7 +45,7 @@ range_same streams form a b p q =
     (subst (λ (z : ℤ). z ≤ℤ a.hi) q.high_reached.is (p.high q.high_reached.stream q.high_reached.is_one q.high_reached.index q.high_reached.in_class)) in
     ap (λ (z : ℤ). record { lo = z; hi = a.hi }) low ∙ ap (λ (z : ℤ). record { lo = b.lo; hi = z }) high
 
-fits_machine : (w : ℕ) (z : ℤ) → w ≤ 128 → FitsWidth w z → FitsSigned w128 z
+pub fits_machine : (w : ℕ) (z : ℤ) → w ≤ 128 → FitsWidth w z → FitsSigned w128 z
 fits_machine w z small fits = let f = FitsWidth-more w 128 z small fits in let low = f.low in let high = f.high in omega (arith, ints)
 
 pub bits_least : (range : Range) (w : ℕ) → IsLeastWidth range.lo range.hi w → bits_for range ≡ w
@@ -57,7 +58,7 @@ high_bits z w l = let fits = fits_machine w z l.most l.holds_low in let both = w
 -- the width of one sum
 pub single_bits : (streams : Streams) (s : HeldSum) (w : ℕ) (range : Telling) → TellsRanges streams range → s.class ≡ every → IsFormWidth streams s.form w → w ≡ bits_of range (s ∷ [])
 single_bits streams s w range tells class f =
-    let own : range s.form s.class ≡ f.range = subst (λ c. range s.form c ≡ f.range) (sym class) (range_same streams s.form (range s.form every) f.range (tells.each s.form every (omega arith)) f.is_range) in
+    let own : range s.form s.class ≡ f.range = subst (λ c. range s.form c ≡ f.range) (sym class) (range_same streams s.form every (range s.form every) f.range (tells.each s.form every (omega arith)) f.is_range) in
     let bits : bits_for (range s.form s.class) ≡ w = ap bits_for own ∙ bits_least f.range w f.least in
     let some = f.least.positive in
     omega (arith, bits, some)
@@ -85,7 +86,7 @@ pub named-peak_at : (streams : Streams) (range : Telling) → TellsRanges stream
 named-peak_at streams range tells cells group kind number w node own r is =
     let s = held_sum own in
     let name = name_of group kind number in
-    let same : own.range ≡ range (weights_of own.sum) every = range_same streams (weights_of own.sum) own.range (range (weights_of own.sum) every) is (tells.each (weights_of own.sum) every (omega arith)) in
+    let same : own.range ≡ range (weights_of own.sum) every = range_same streams (weights_of own.sum) every own.range (range (weights_of own.sum) every) is (tells.each (weights_of own.sum) every (omega arith)) in
     let bits : bits_for (range (weights_of own.sum) every) ≡ own.width = ap bits_for (sym same) ∙ bits_least own.range own.width own.least in
     map_if (nat_eq own.width 1) (named_peak cells) (record { register = node; sum = own.sum; class = every; lag = own.lag; high = needs_high own.range own.width })
     ∙ ap (λ (n : Option Name). cond (nat_eq own.width 1) [] (record { name = n; sum = s; high = needs_high own.range own.width } ∷ [])) (named cells group name w node r)

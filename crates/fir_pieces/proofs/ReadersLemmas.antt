@@ -45,6 +45,7 @@ use Rattle.fir_pieces.specs.Peaks.{HoldsForm, IsDue}
 use Rattle.fir_pieces.specs.Readers.{IsDataKind, at_node, IsCombined, TakesNext, AddsReader, AddsReaders}
 use Rattle.fir_pieces.specs.Reading.{read, ReadsWithin, reading_adders, all_adders, terms_at}
 use Rattle.fir_pieces.proofs.DueLemmas.{HoldsForm-later, IsDue-later}
+use Rattle.fir_pieces.proofs.MomentLemmas.{HoldsForm-by}
 use Rattle.fir_pieces.proofs.HeldLemmas.{form_fits, taken_value-stream, weighted_sum-reading}
 use Rattle.fir_pieces.proofs.ReadingLemmas.{read_same, within_at}
 use Rattle.fir_pieces.proofs.UnitLemmas.{short_weights}
@@ -220,21 +221,21 @@ AddsReader-of {old} {mid} {new} {window} {kind} {reading} {node} {to} streams ow
   shallow = λ s plain. shallow_more old.group data_group t.grows t.adders (c.shallow s plain);
   plain = subst (λ (g : ℕ). IsPlain new.cells g to.place) same t.plain;
   wide = (t.wide.0, t.wide.1 ∙ c.wide);
-  holds = λ from positive w. record {
-    early = λ cut law x v s is run carried tick soon. let first : tick ≡ 0 = omega arith in ap (λ (n : ℕ). v n to.place) first ∙ t.starts cut law x v run;
-    late = λ cut law x v s is run carried tick count taken_is.
-        let mid_run = t.grows.extends.runs cut law x v run in
-        let old_run = c.grows.extends.runs cut law x v mid_run in
-        let f : ℕ → ℤ = λ i. s (pos count -ℤ pos 1 -ℤ pos i) in
-        let taken' : HasTaken w.taken.period w.taken.offset count tick = subst (λ (p : ℕ). HasTaken p w.taken.offset count tick) (sym w.period) (subst (λ (o : ℕ). HasTaken from.period o count tick) (sym w.offset) taken_is) in
-        let values = λ (i : ℕ) (inside : i < length window).
-        (w.holds i (get_or window i (record { place = 0 })) (slice_get-get_or window i (record { place = 0 }) inside)).holds cut law x v old_run tick count taken'
-        ∙ taken_value-stream (shown v w.taken) s (w.carries cut law x v s is old_run carried) (λ n. causal.each s is n) count i in
-        let now = read_same (length window) reading (at_node v tick window) f reads values ∙ sym (weighted_sum-reading reading f) in
-        let fits : FitsWidth own.width (read reading (at_node v tick window)) = subst (FitsWidth own.width) (sym now) (form_fits streams causal (reading_form reading) own.width (reader_width reading own h) s is count) in
-        let next : tick + 1 ≡ suc tick = omega arith in
-        ap (λ (n : ℕ). v n to.place) next ∙ t.steps cut law x v run tick ∙ c.keeps cut law x v mid_run tick fits ∙ now;
-  };
+  holds = λ from positive w.
+      HoldsForm-by streams new.cells from (reading_form reading) 1 to positive
+      (λ cut law x v s is run carried tick soon. let first : tick ≡ 0 = omega arith in ap (λ (n : ℕ). v n to.place) first ∙ t.starts cut law x v run)
+      (λ cut law x v s is run carried tick count taken_is.
+      let mid_run = t.grows.extends.runs cut law x v run in
+      let old_run = c.grows.extends.runs cut law x v mid_run in
+      let f : ℕ → ℤ = λ i. s (pos count -ℤ pos 1 -ℤ pos i) in
+      let taken' : HasTaken w.taken.period w.taken.offset count tick = subst (λ (p : ℕ). HasTaken p w.taken.offset count tick) (sym w.period) (subst (λ (o : ℕ). HasTaken from.period o count tick) (sym w.offset) taken_is) in
+      let values = λ (i : ℕ) (inside : i < length window).
+      (w.holds i (get_or window i (record { place = 0 })) (slice_get-get_or window i (record { place = 0 }) inside)).holds cut law x v old_run tick count taken'
+      ∙ taken_value-stream (shown v w.taken) s (w.carries cut law x v s is old_run carried) (λ n. causal.each s is n) count i in
+      let now = read_same (length window) reading (at_node v tick window) f reads values ∙ sym (weighted_sum-reading reading f) in
+      let fits : FitsWidth own.width (read reading (at_node v tick window)) = subst (FitsWidth own.width) (sym now) (form_fits streams causal (reading_form reading) own.width (reader_width reading own h) s is count) in
+      let next : tick + 1 ≡ suc tick = omega arith in
+      ap (λ (n : ℕ). v n to.place) next ∙ t.steps cut law x v run tick ∙ c.keeps cut law x v mid_run tick fits ∙ now);
 }
   where
     same : mid.group ≡ old.group

@@ -2,8 +2,13 @@ pub mod Reading
 pub mod Placed
 pub mod Form
 pub mod Listed
+pub mod Moment
+pub mod Split
 pub mod Held
 pub mod Peaks
+pub mod FormSums
+pub mod PhaseSums
+pub mod Registered
 pub mod Cutting
 pub mod Readers
 pub mod Sums

@@ -1,13 +1,9 @@
 -- The peaks of registers, and what the registers hold.
-use Rattle.std.specs.Prelude.{◌≡◌, ℕ, suc, ◌+◌, ◌<◌, ◌≤◌, nat_eq, if◌then◌else◌, List, [], ◌∷◌, ◌++◌, length, ℤ, pos, ◌-ℤ◌}
-use Rattle.mr_values.specs.Sequence.{Sequence, weighted_sum}
+use Rattle.std.specs.Prelude.{◌≡◌, ℕ, suc, ◌≤◌, nat_eq, if◌then◌else◌, List, [], ◌∷◌, ◌++◌, length, ℤ}
 use Rattle.net_graph.specs.declared.cell.Cell.{Cell}
 use Rattle.net_graph.specs.declared.cell.Node.{Node}
 use Rattle.net_graph.specs.declared.cell.Stream.{Stream}
 use Rattle.net_graph.specs.declared.name.Name.{Name}
-use Rattle.net_graph.specs.Cut.{Cut, IsCut}
-use Rattle.net_graph.specs.Run.{Values, IsRun}
-use Rattle.pipeline_balance.specs.Gate.{Carries, HasTaken}
 use Rattle.pipeline_balance.specs.Numbered.{IsRegister}
 use Rattle.stage_law.specs.Registers.{HeldSum, needs_high}
 use Rattle.stage_law.specs.Streams.{Streams}
@@ -15,6 +11,8 @@ use Rattle.stage_law.specs.declared.stage.Peak.{Peak}
 use Rattle.fir_pieces.specs.declared.held.Held.{Held}
 use Rattle.fir_pieces.specs.Listed.{every}
 use Rattle.fir_pieces.specs.Held.{IsFormWidth}
+use Rattle.fir_pieces.specs.Moment.{HoldsForms}
+use Rattle.fir_pieces.specs.Split.{split_pace}
 
 -- the peak of a register that holds this: none where one bit is wide enough
 abbrev pub peak_at : Node → Held → List Peak
@@ -26,13 +24,9 @@ peaks_at [] nodes = []
 peaks_at (own ∷ held) [] = []
 peaks_at (own ∷ held) (node ∷ nodes) = peak_at node own ++ peaks_at held nodes
 
--- In each run in which the stream carries one of these streams, the node is 0 before so many ticks, and holds then the form's sum at the
--- last value that was taken so many ticks before.
-pub record HoldsForm (streams : Streams) (cells : List Cell) (from : Stream) (form : List ℤ) (ticks : ℕ) (node : Node) : Type 0 where
-  pub early : (cut : Cut) → IsCut cut → (inputs : ℕ → ℤ) (values : Values) (v : Sequence) → streams v → IsRun cut cells inputs values → Carries values from v
-      → (t : ℕ) → t < ticks → values t node.place ≡ pos 0
-  pub late : (cut : Cut) → IsCut cut → (inputs : ℕ → ℤ) (values : Values) (v : Sequence) → streams v → IsRun cut cells inputs values → Carries values from v
-      → (s count : ℕ) → HasTaken from.period from.offset count s → values (s + ticks) node.place ≡ weighted_sum form (λ i. v (pos count -ℤ pos 1 -ℤ pos i))
+-- the node holds this one form at each value of the stream, so many ticks after it was taken
+abbrev pub HoldsForm : Streams → List Cell → Stream → List ℤ → ℕ → Node → Type 0
+HoldsForm streams cells from form ticks node = HoldsForms streams cells from (split_pace from 1) (λ φ. form) ticks node
 
 -- the node is a register of this name that holds this sum over at most so many values, so many levels later, and has the least width for it
 pub record IsDue (streams : Streams) (cells : List Cell) (from : Stream) (depth levels group : ℕ) (name : Name) (s : HeldSum) (node : Node) : Type 0 where

@@ -104,7 +104,7 @@ module _ {old first second new : NetView} {from stream : Stream} {window roots r
   -- ---- registers
 
   windows_part : IsPart streams new.cells old.group from (length window) levels Window (window_sums (depth_of taps up)) window values
-  windows_part = window_part streams levels causal w later.extends long values_held (left_alone Window (λ e. absurd (cc)) (λ e. absurd (cc)) (length window) w.counted)
+  windows_part = window_part streams levels causal positive w later.extends long values_held (left_alone Window (λ e. absurd (cc)) (λ e. absurd (cc)) (length window) w.counted)
 
   trees_part : IsPart streams new.cells old.group from (length window) levels Register (phase_sums up taps (levels_of taps up) up) registers held
   trees_part = subst (λ (n : ℕ). IsPart streams new.cells old.group from (length window) levels Register (phase_sums up taps n up) registers held) levels_are (record {

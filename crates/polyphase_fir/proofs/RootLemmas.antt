@@ -56,7 +56,7 @@ IsRoot-tree {mid} {new} {from} {window} {held} {registers} {root} {levels} strea
       let at : (i : ℕ) → pos (suc k) -ℤ pos 1 -ℤ pos i ≡ pos k -ℤ pos i = λ i. omega (arith, ints) in
       let tick : s + levels ≡ s + 0 + levels = omega arith in
       ap (λ (n : ℕ). values n root.place) tick
-      ∙ tree_root streams causal positive (window_shown streams causal (depth_of taps up) long w) (placed_places up r taps some) t cut law x values v is run carried s (suc k) taken
+      ∙ tree_root streams causal positive (window_shown streams causal positive (depth_of taps up) long w) (placed_places up r taps some) t cut law x values v is run carried s (suc k) taken
       ∙ term_sum-ages (depth_of taps up) f ts (placed_below up r taps some)
       ∙ term_sum-placed f up r taps inside
       ∙ weighted_sum-same (phase up r taps) f (λ i. v (pos k -ℤ pos i)) (λ i. ap v (at i));

@@ -161,7 +161,7 @@ module _ {old first new : NetView} {from : Stream} {window pair_nodes registers 
 
   windows_part : IsPart streams new.cells old.group from (length window) (1 + levels) Window (window_sums (length taps)) window values
   windows_part =
-      window_part streams (1 + levels) causal w after_window long values_held
+      window_part streams (1 + levels) causal positive w after_window long values_held
       (IsCounted-leaves old.group Window (length window) s.tree.tree.grows.extends s.tree.tree.names (λ number. no_kind Register Window (λ e. absurd (cc)) (λ e. absurd (cc)) s.middle.group old.group number)
       (IsCounted-leaves old.group Window (length window) b.grows.extends b.names (λ number. no_kind Register Window (λ e. absurd (cc)) (λ e. absurd (cc)) s.front.between.group old.group number)
       (IsCounted-leaves old.group Window (length window) a.grows.extends a.names (λ number. no_kind PreAdder Window (λ e. absurd (cc)) (λ e. absurd (cc)) first.group old.group number) w.counted)))

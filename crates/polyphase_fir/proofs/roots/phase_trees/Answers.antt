@@ -88,7 +88,7 @@ loop-phase-preserved g c =
       registers = λ from positive w.
           subst (λ (n : ℕ). AddsRegisters streams c.args.net.now c.sum_tree.new.net from depth p.levels (phase_sums up taps p.levels n) c.push_tree.new.trees.registers.items) next
           (subst (λ (nodes : List Node). AddsRegisters streams c.args.net.now c.sum_tree.new.net from depth p.levels (phase_sums up taps p.levels (suc phase)) nodes) (sym c.in_ok-push_tree.ensures.registers)
-          (AddsRegisters-push streams causal positive (window_shown streams causal depth long (IsCutWindow-later streams i.extends w)) (placed_places up phase taps p.up_low) (ages_within depth) i.group (i.registers from positive w) here));
+          (AddsRegisters-push streams causal positive (window_shown streams causal positive depth long (IsCutWindow-later streams i.extends w)) (placed_places up phase taps p.up_low) (ages_within depth) i.group (i.registers from positive w) here));
       held =
           subst (λ (n : ℕ). AreHeld streams (phase_sums up taps p.levels n) c.push_tree.new.trees.held.items) next
           (subst (λ (held : List Held). AreHeld streams (phase_sums up taps p.levels (suc phase)) held) (sym c.in_ok-push_tree.ensures.held) (AreHeld-append i.held here.sums));
