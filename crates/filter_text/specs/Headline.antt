@@ -17,7 +17,9 @@ use Rattle.verilog_text.specs.Reading.{Reads}
 use Rattle.net_module.specs.Steps.{ticks_in, pair_of}
 use Rattle.filter_text.specs.Runs.{samples_in, IsRunFrom}
 use Rattle.filter_text.specs.Registers.{HasLinearRegisters, AreLeastRegisters}
+use Rattle.filter_text.specs.Cascades.{in_module}
 use Rattle.chain_build.specs.Added.{HasFacts}
+use Rattle.chain_build.specs.Alike.{HoldsOfEachCascade}
 use Rattle.chain_build.specs.Built.{ArePlainGroups, kind_of}
 use Rattle.chain_build.specs.Linear.{output_range}
 use Rattle.stage_law.specs.Facts.{StageFacts}
@@ -90,7 +92,7 @@ HaveShapes number (g ∷ gs) d = (has_linear_shape (kind_of g) ≡ true → HasL
 
 -- The module passes every check, from any content it runs over any cycles, cut and uncut, its output has the least width for the range
 -- of the chain's values, and it shows the chain. Its linear registers are those of the plan, none of them ever cut after a reset and each
--- of the least width. Its groups cost what they cost as stages, with at most one adder between two registers, and their statements have
+-- of the least width. Each cascade has its integrators' and combs' registers alone, all of the least width for its output. Its groups cost what they cost as stages, with at most one adder between two registers, and their statements have
 -- the shapes of their forms; where no group rounds, its output register is never cut. Its ports that carry numbers are signed, as wide as a
 -- sample and as the output register. Its names are those of ports, of the output register, of control and of the plan's groups; control
 -- has one value at each tick in all runs, and the outputs cost no adder.
@@ -103,6 +105,7 @@ pub record IsModuleOf (elements : List Element) (width ticks latency period : �
   pub uncut : ArePlainGroups (groups elements) → KeepsOutput elements width ticks latency period design
   pub registers : HasLinearRegisters elements width ticks design
   pub least : AreLeastRegisters elements width ticks design
+  pub cascades : HoldsOfEachCascade (in_module design) width ticks elements
   pub costs : AreCounted 1 (groups elements) design
   pub shapes : HaveShapes 1 (groups elements) design
   pub ports : HasPorts width design

@@ -116,6 +116,7 @@ Realises-phases {old} {first} {second} {new} {from} {stream} {window} {roots} {r
       names =
           LeavesFree-trans old.cells first.cells new.cells (IsTouched old.group Window) (IsOwnName old.group) (IsOwnName old.group) (own_window old.group) (λ name h. h) w.names
           (LeavesFree-trans first.cells second.cells new.cells (IsTouched first.group Register) (λ name. name.kind ≡ Control) (IsOwnName old.group) (λ name h. own_register old.group name (subst (λ (g : ℕ). IsTouched g Register name) same h)) (λ name h. inr h) p.names s.names);
+      alike = λ kind. absurd (cc);
       registers = λ linear.
           has_registers streams old.cells new.cells old.group from (length window) levels (window_sums (ceil_div (length taps) up)) (phase_sums up taps (levels_of taps up) up) window registers values held positive
           (sym long ∙ sym (length-window_sums (ceil_div (length taps) up))) (subst (λ (n : ℕ). length registers ≡ length (phase_sums up taps n up)) levels_are r.many) values_are (subst (λ (n : ℕ). AreHeld streams (phase_sums up taps n up) held) levels_are held_are)

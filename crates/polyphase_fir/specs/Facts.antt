@@ -41,6 +41,7 @@ polyphase_facts taps up down = record {
   windows = ceil_div (length taps) up;
   tables = 0;
   longest = ceil_div (length taps) up + 1;
+  alike = 0;
   registers = λ period. registers_of taps up;
 }
 
