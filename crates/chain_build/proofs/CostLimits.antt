@@ -1,5 +1,5 @@
 -- What the cost tests of an accepted plan say of the elements before a group: how many classes they have, and how far back they reach.
-use Rattle.std.proofs.Common.{◌≡◌, ◌∙◌, ℕ, zero, suc, ◌+◌, ◌-◌, ◌*◌, ◌/◌, ◌%◌, ◌^◌, ◌<◌, ◌≤◌, refl, sym, ap, subst, arith, mul_assoc, false, List, [], ◌∷◌, ◌++◌, ℤ, Option, None, Some}
+use Rattle.std.proofs.Common.{◌≡◌, ◌∙◌, ℕ, zero, suc, ◌+◌, ◌*◌, ◌/◌, ◌%◌, ◌^◌, ◌<◌, ◌≤◌, refl, sym, ap, subst, arith, mul_assoc, false, List, [], ◌∷◌, ◌++◌, ℤ, Option, None, Some}
 use Rattle.std.specs.Prelude.{All}
 use Rattle.std.specs.Option.{option_map}
 use Rattle.std.proofs.Math.Nat.{mul-le-mul_right, mul_comm}

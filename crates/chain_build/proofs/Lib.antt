@@ -13,6 +13,7 @@ pub mod ExactPrefixes
 pub mod OutputRange
 pub mod SoFar
 pub mod Taking
+pub mod AlikeSoFar
 pub mod RegisterOn
 pub mod RegisterLemmas
 pub mod RegistersSoFar

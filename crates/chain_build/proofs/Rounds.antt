@@ -1,7 +1,7 @@
 -- The classes of a stage's sums go round no slower than the stage does.
-use Rattle.std.proofs.Common.{◌≡◌, ◌∙◌, ℕ, zero, suc, ◌+◌, ◌*◌, ◌/◌, ◌%◌, ◌<◌, ◌≤◌, refl, sym, ap, subst, arith}
+use Rattle.std.proofs.Common.{◌≡◌, ◌∙◌, ℕ, zero, suc, ◌+◌, ◌*◌, ◌/◌, ◌%◌, ◌<◌, ◌≤◌, sym, ap, subst, arith}
 use Rattle.std.specs.Int.{IsGcd, ◌∣◌}
-use Rattle.std.proofs.Math.Nat.{dvd-mul_left_of_dvd, dvd-add_iff_right, mul-le-mul_left}
+use Rattle.std.proofs.Math.Nat.{dvd-mul_left_of_dvd, dvd-add_iff_right}
 use Rattle.std.proofs.lemmas.Nat.{div-add-mod', mod_below, le-div}
 use Rattle.std.proofs.lemmas.Nat.Gcd.{mod-eq-zero_of_dvd, same_from_IsGcd}
 use Rattle.impulse_phase.specs.Response.{common_to, common}

@@ -1,4 +1,5 @@
 pub mod Added
+pub mod Alike
 pub mod Built
 pub mod ChainNet
 pub mod Extremes

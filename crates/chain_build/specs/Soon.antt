@@ -1,5 +1,5 @@
 -- How soon a sum over what elements make of samples reaches an end of its range, and how many samples are read by then.
-use Rattle.std.specs.Prelude.{◌≡◌, ℕ, ◌+◌, ◌*◌, ◌/◌, ◌^◌, ◌≤◌, List, length, ℤ, pos, ◌≤ℤ◌}
+use Rattle.std.specs.Prelude.{ℕ, ◌+◌, ◌*◌, ◌/◌, ◌^◌, ◌≤◌, List, length, ℤ, pos, ◌≤ℤ◌}
 use Rattle.mr_values.specs.declared.plan.Element.{Element}
 use Rattle.impulse_phase.specs.Reach.{extent}
 use Rattle.impulse_phase.specs.Response.{responses, full_cycle, common}

@@ -9,6 +9,7 @@ ghost use Rattle.pipeline_balance.specs.Numbered.{name_of};
 ghost use Rattle.plan_check.specs.Accepted.{IsAccepted, AreFacts};
 ghost use Rattle.stage_law.specs.Streams.{HasRoom};
 ghost use Rattle.width_extreme.specs.Prefix.{IsStream};
+ghost use Rattle.chain_build.specs.Alike.{HasCascades};
 ghost use Rattle.rounding_stage.specs.Rounding.{is_built_mode};
 ghost use Rattle.chain_build.specs.Built.{are_built, is_built, is_parallel, has_rounding};
 ghost use Rattle.chain_build.specs.ChainNet.{IsChainNet};
@@ -212,6 +213,7 @@ pub(crate) fn build_told(alloc: Global, plan: &Plan, facts: &Facts) -> Result<To
     ensures chain { IfOk result (λ t. IsChainNet (size plan.now.width) (size plan.now.ticks) plan.now.elements t.built.net t.built.out_q t.built.out_valid) }
     ensures registers { IfOk result (λ t. HasLinearRegisters (size plan.now.width) (size plan.now.ticks) plan.now.elements t.built.net) }
     ensures costs { IfOk result (λ t. HasCosts (groups plan.now.elements) t.built.costs.items t.built.net) }
+    ensures cascades { IfOk result (λ t. HasCascades (size plan.now.width) (size plan.now.ticks) plan.now.elements t.built.net) }
     ensures shapes { IfOk result (λ t. HaveLinearItems 1 (groups plan.now.elements) t.built.net) }
     ensures groups { IfOk result (λ t. AreGrouped (length (groups plan.now.elements)) t.built.net) }
     ensures extremes { IfOk result (λ t. t.built.extremes.items ≡ map as_extreme t.peaks.items) }
@@ -264,6 +266,9 @@ pub fn build(alloc: Global, plan: &Plan, facts: &Facts) -> Result<Built, Memory>
 
     // The form of each group, and what it costs in adders, window registers and tables.
     ensures costs { IfOk result (λ b. HasCosts (groups plan.now.elements) b.costs.items b.net) }
+
+    // The registers of each cascade: how many, and their one width.
+    ensures cascades { IfOk result (λ b. HasCascades (size plan.now.width) (size plan.now.ticks) plan.now.elements b.net) }
 
     // What the nodes of a linear group compute.
     ensures shapes { IfOk result (λ b. HaveLinearItems 1 (groups plan.now.elements) b.net) }

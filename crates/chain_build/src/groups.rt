@@ -14,6 +14,7 @@ ghost use Rattle.stage_law.specs.Realises.{Realises, IsUnused};
 ghost use Rattle.stage_law.specs.Streams.{HasRoom};
 ghost use Rattle.width_extreme.specs.Prefix.{IsStream};
 ghost use Rattle.stage_law.specs.Kinds.{is_linear};
+ghost use Rattle.chain_build.specs.Alike.{HasCascades};
 ghost use Rattle.chain_build.specs.Built.{IsBuiltGroup, AreBuiltGroups, kind_of, rounds, has_rounding};
 ghost use Rattle.chain_build.specs.LinearOn.{HasGroupRegisters};
 ghost use Rattle.chain_build.specs.Peaks.{AddsPeaks, HasGroupPeaks, keeps};
@@ -282,6 +283,7 @@ pub(crate) fn add_groups(
     ensures registers { IfOk result (λ _. HasGroupRegisters (size plan.now.width) (size plan.now.ticks) plan.now.elements net.new.cells from) }
     ensures costs { IfOk result (λ c. AreApart net.new.cells → HasCosts (groups plan.now.elements) c.costs.items net.new.cells) }
     ensures peaks { IfOk result (λ _. HasGroupPeaks (size plan.now.width) (size plan.now.ticks) plan.now.elements net.new.cells peaks.new.items) }
+    ensures cascades { IfOk result (λ _. HasCascades (size plan.now.width) (size plan.now.ticks) plan.now.elements net.new.cells) }
     ensures shapes { IfOk result (λ _. HaveLinearItems 1 (groups plan.now.elements) net.new.cells) }
     ensures groups { IfOk result (λ _. IsGroupedTo (length (groups plan.now.elements)) net.new) }
 {

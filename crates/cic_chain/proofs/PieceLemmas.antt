@@ -13,16 +13,13 @@ use Rattle.pipeline_balance.specs.Gate.{AddsGate}
 use Rattle.pipeline_balance.specs.Shapes.{KeepsShapes}
 use Rattle.pipeline_balance.specs.Numbered.{IsCounted, IsTouched, LeavesFree}
 use Rattle.pipeline_balance.proofs.CostLemmas.{SameNamed-refl, SameNamed-trans}
-use Rattle.pipeline_balance.proofs.NumberedLemmas.{LeavesFree-refl, LeavesFree-trans, IsRegister-later, IsCounted-leaves}
+use Rattle.pipeline_balance.proofs.NumberedLemmas.{LeavesFree-refl, LeavesFree-trans, IsCounted-leaves}
 use Rattle.pipeline_balance.proofs.ShallowLemmas.{shallow_more}
 use Rattle.pipeline_balance.proofs.ShapeLemmas.{KeepsShapes-refl, KeepsShapes-trans}
-use Rattle.net_graph.specs.Grow.{Extends, Grows}
-use Rattle.net_graph.specs.declared.cell.Cell.{Cell}
-use Rattle.std.proofs.Common.{List}
-use Rattle.cic_chain.specs.Pieces.{HasRegister, IsPiece}
-
-pub HasRegister-later : {old new : List Cell} {group number width : ℕ} → Extends old new → HasRegister old group number width → HasRegister new group number width
-HasRegister-later e h = record { place = h.place; register = IsRegister-later e h.register }
+use Rattle.net_graph.specs.Grow.{Grows}
+use Rattle.stage_law.specs.Alike.{HasRegister}
+use Rattle.stage_law.proofs.AlikeLemmas.{HasRegister-later}
+use Rattle.cic_chain.specs.Pieces.{IsPiece}
 
 pub IsPiece-none : (net : NetView) (from : Node) (width : ℕ) → from.place < length net.cells → IsPiece net net from from width 0 0
 IsPiece-none net from width inside = record {

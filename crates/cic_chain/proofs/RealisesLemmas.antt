@@ -6,6 +6,7 @@ use Rattle.std.proofs.Math.Nat.{mul-mod_left, mul-le-mul_left, mul-div_cancel}
 use Rattle.mr_values.specs.Sequence.{Sequence, filter, filter_times, ones, up, phase, cic_down, cic_up}
 use Rattle.mr_values.proofs.Polyphase.{filter-up}
 use native.Mathlib.Nat.{mod-lt, div-add-mod'}
+use Rattle.mr_values.specs.Value.{chain}
 use Rattle.mr_values.specs.Width.{FitsWidth, IsLeastWidth, wrap}
 use Rattle.net_graph.specs.declared.cell.Stream.{Stream}
 use Rattle.net_graph.specs.declared.name.Name.{Name}
@@ -17,6 +18,7 @@ use Rattle.net_graph.proofs.CutLemmas.{IsCut-all, IsCut-control}
 use Rattle.net_graph.proofs.DepthLemmas.{IsShallow-none, IsPlain-untouched}
 use Rattle.pipeline_balance.specs.Gate.{Carries}
 use Rattle.pipeline_balance.specs.Numbered.{IsTouched}
+use Rattle.stage_law.specs.Alike.{HasAlike}
 use Rattle.stage_law.specs.Facts.{StageFacts}
 use Rattle.stage_law.specs.Range.{IsRange}
 use Rattle.stage_law.specs.Realises.{Realises, CarriesThrough, IsOwnName}
@@ -25,7 +27,7 @@ use Rattle.stage_law.specs.declared.ranges.Range.{Range}
 use Rattle.stage_law.specs.Kinds.{is_linear}
 use Rattle.stage_law.specs.declared.stage.Emitted.{Emitted}
 use Rattle.cic_chain.specs.Cascade.{whole, decimator, interpolator}
-use Rattle.cic_chain.specs.Facts.{cic_down_facts, cic_up_facts}
+use Rattle.cic_chain.specs.Facts.{cascade_registers, cic_down_facts, cic_up_facts}
 use Rattle.cic_chain.specs.Pieces.{IsPiece, AddsDecimator, AddsInterpolator, sampled}
 use Rattle.cic_chain.specs.Phases.{IsPhaseRange}
 use Rattle.running_sums.specs.Weights.{cic_weights}
@@ -52,8 +54,8 @@ own_register group name (inr h) = inr h
 -- what a piece of registers says of any stage
 pub Realises-piece : {old new : NetView} {from to : Stream} {width registers adders : ℕ} (streams : Streams) (facts : StageFacts) (emitted : Emitted) → emitted.stream ≡ to → is_linear facts.kind ≡ false → 1 ≤ old.group → from.node.place < length old.cells
     → IsPiece old new from.node to.node width registers adders → adders ≡ facts.adders → facts.windows ≡ 0 → facts.tables ≡ 0 → to.period * facts.up ≡ from.period * facts.down → to.offset ≡ from.offset + facts.delay from.period
-    → CarriesThrough cut_all streams facts.elements new.cells from to → CarriesThrough cut_control streams facts.elements new.cells from to → Realises facts streams old new from emitted
-Realises-piece {old} {new} {from} {to} streams facts emitted is not_linear data_group inside p adders windows tables period offset carries uncut = record {
+    → CarriesThrough cut_all streams facts.elements new.cells from to → CarriesThrough cut_control streams facts.elements new.cells from to → HasAlike streams (chain facts.elements) new.cells old.group facts.alike → Realises facts streams old new from emitted
+Realises-piece {old} {new} {from} {to} streams facts emitted is not_linear data_group inside p adders windows tables period offset carries uncut alike = record {
   grows = p.grows;
   within = rw is p.within;
   period = rw is period;
@@ -66,6 +68,7 @@ Realises-piece {old} {new} {from} {to} streams facts emitted is not_linear data_
   names = record { free = λ name other f. p.names.free name (λ h. other (own_register old.group name h)) f };
   shallow = λ bound none. p.shallow (IsShallow-none old.cells old.group bound none) (IsPlain-untouched old.cells old.group from.node.place none inside);
   shapes = λ kind. p.linear.each old.group data_group;
+  alike = λ kind. alike;
   registers = λ linear. absurd (cc);
 }
 
@@ -94,8 +97,8 @@ module _ (streams : Streams) (factor stages delay : ℕ) where
 
   pub Realises-down : {old new : NetView} {from to : Stream} {width : ℕ} {range : Range} (emitted : Emitted) → emitted.stream ≡ to → AreCausal streams → 1 ≤ stages → 1 ≤ old.group → from.node.place < length old.cells
       → IsRange streams (cic_weights stages (factor * delay)) (record { modulus = factor; residue = 0 }) range → IsLeastWidth range.lo range.hi width
-      → AddsDecimator old new from width factor stages delay to → Realises (cic_down_facts factor stages delay) streams old new from emitted
-  Realises-down {old} {new} {from} {to} {width} {range} emitted is causal some data_group inside r w d =
+      → AddsDecimator old new from width factor stages delay to → HasAlike streams (cic_down factor stages delay) new.cells old.group (cascade_registers stages delay) → Realises (cic_down_facts factor stages delay) streams old new from emitted
+  Realises-down {old} {new} {from} {to} {width} {range} emitted is causal some data_group inside r w d alike =
       Realises-piece streams (cic_down_facts factor stages delay) emitted is refl data_group inside d.piece (omega arith) refl refl (let p = d.period in omega (arith, p)) d.offset
       (λ inputs values v in_streams run carried n.
       d.decimates cut_all IsCut-all inputs values run (pos n)
@@ -105,6 +108,7 @@ module _ (streams : Streams) (factor stages delay : ℕ) where
       d.decimates cut_control IsCut-control inputs values run (pos n)
       ∙ ap (λ (x : Sequence). decimator whole factor stages delay x (pos n)) (carried_is streams causal values from v in_streams carried)
       ∙ whole_down factor stages delay v (causal.each v in_streams) (pos n))
+      alike
 
 -- ---- the interpolator
 
@@ -136,8 +140,8 @@ module _ (streams : Streams) (factor stages delay : ℕ) where
 
   pub Realises-up : {old new : NetView} {from to : Stream} {width : ℕ} {range : Range} (emitted : Emitted) → emitted.stream ≡ to → AreCausal streams → 1 ≤ stages → 1 ≤ factor → 1 ≤ old.group → from.node.place < length old.cells
       → IsPhaseRange streams (cic_weights stages (factor * delay)) factor factor range → IsLeastWidth range.lo range.hi width
-      → AddsInterpolator old new from width factor stages delay to → Realises (cic_up_facts factor stages delay) streams old new from emitted
-  Realises-up {old} {new} {from} {to} {width} {range} emitted is causal some factor_some data_group inside r w d =
+      → AddsInterpolator old new from width factor stages delay to → HasAlike streams (cic_up factor stages delay) new.cells old.group (cascade_registers stages delay) → Realises (cic_up_facts factor stages delay) streams old new from emitted
+  Realises-up {old} {new} {from} {to} {width} {range} emitted is causal some factor_some data_group inside r w d alike =
       Realises-piece streams (cic_up_facts factor stages delay) emitted is refl data_group inside d.piece (omega arith) refl refl (let p = d.period in omega (arith, p))
       (d.offset ∙ ap (λ (q : ℕ). from.offset + (stages + (stages - 1) * q + 1)) (fast_is to.period from.period factor_some d.period))
       (λ inputs values v in_streams run carried n.
@@ -148,3 +152,4 @@ module _ (streams : Streams) (factor stages delay : ℕ) where
       d.interpolates cut_control IsCut-control inputs values run (pos n)
       ∙ ap (λ (x : Sequence). interpolator whole factor stages delay x (pos n)) (carried_is streams causal values from v in_streams carried)
       ∙ whole_up factor stages delay v factor_some (causal.each v in_streams) (pos n))
+      alike

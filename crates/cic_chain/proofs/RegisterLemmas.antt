@@ -13,13 +13,13 @@ use Rattle.net_graph.specs.declared.name.NameKind.TheVariants.{Control, Window, 
 use Rattle.net_graph.specs.Cells.{NetView}
 use Rattle.net_graph.specs.WellFormed.{IsFree}
 use Rattle.pipeline_balance.specs.Numbered.{IsCounted, name_of}
+use Rattle.stage_law.specs.Alike.{IsOutputWidth, HasRegister, HasRegistersOf, HasAlike}
 use Rattle.stage_law.specs.Range.{IsRange, IsReached}
 use Rattle.stage_law.specs.Realises.{IsUnused, IsFreeIn}
 use Rattle.stage_law.specs.Streams.{Streams}
 use Rattle.stage_law.specs.declared.ranges.Range.{Range}
 use Rattle.cic_chain.specs.Phases.{every, IsPhaseRange}
-use Rattle.cic_chain.specs.Pieces.{HasRegister, IsPiece}
-use Rattle.cic_chain.specs.Registers.{IsOutputWidth, HasRegistersOf, HasCascade}
+use Rattle.cic_chain.specs.Pieces.{IsPiece}
 use Rattle.running_sums.specs.Weights.{cic_weights}
 use Rattle.cic_chain.proofs.RealisesLemmas.{down_value, down_fits, up_fits}
 use Rattle.cic_chain.proofs.WeightLemmas.{filter-sums}
@@ -84,6 +84,5 @@ module _ (streams : Streams) (factor stages delay : ℕ) where
       end : (r : ℕ) → r < factor → (z : ℤ) → IsReached streams (phase factor r (cic_weights stages (factor * delay))) every z → (fewer : ℕ) → ((v : Sequence) → streams v → (n : ℕ) → FitsWidth fewer (cic_up factor stages delay v (pos n))) → FitsWidth fewer z
       end r inside z a fewer fits = subst (FitsWidth fewer) (up_at a.stream a.index r inside ∙ a.is) (fits a.stream a.is_one (a.index * factor + r))
 
-pub HasCascade-piece : {streams : Streams} {element : Sequence → Sequence} {old new : NetView} {from to : Node} {width : ℕ} (stages delay : ℕ) {adders : ℕ} → IsUnused old.cells old.group → IsPiece old new from to width (stages + stages * (delay + 1)) adders → IsOutputWidth streams element width
-    → HasCascade streams element new.cells old.group stages delay
-HasCascade-piece {width = width} stages delay unused p w = record { width = width; least = w; registers = HasRegistersOf-piece unused p }
+pub HasAlike-piece : {streams : Streams} {made : Sequence → Sequence} {old new : NetView} {from to : Node} {width registers adders : ℕ} → IsUnused old.cells old.group → IsPiece old new from to width registers adders → IsOutputWidth streams made width → HasAlike streams made new.cells old.group registers
+HasAlike-piece {width = width} unused p w = record { width = width; least = w; registers = HasRegistersOf-piece unused p }

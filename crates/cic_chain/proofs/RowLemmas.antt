@@ -25,7 +25,8 @@ use Rattle.pipeline_balance.proofs.ShapeLemmas.{KeepsShapes-trans, KeepsShapes-a
 use Rattle.pipeline_balance.proofs.TakenLemmas.{IsGate-later}
 use Rattle.cic_chain.specs.Cascade.{integrator, earlier, comb, integrators, combs}
 use Rattle.cic_chain.specs.Pieces.{IsPiece, AddsHeld, AddsIntegrator, AddsIntegrators, AddsComb, AddsCombs, sampled, at_ticks}
-use Rattle.cic_chain.proofs.PieceLemmas.{HasRegister-later, IsPiece-none, IsPiece-gate, IsPiece-then, IsPiece-counts}
+use Rattle.stage_law.proofs.AlikeLemmas.{HasRegister-later}
+use Rattle.cic_chain.proofs.PieceLemmas.{IsPiece-none, IsPiece-gate, IsPiece-then, IsPiece-counts}
 use Rattle.cic_chain.proofs.SampleLemmas.{cut_zero, integrator-shift, integrators-causal, comb-causal, sampled-causal, steps_kept, held_before, summed_before}
 
 -- ---- integrators

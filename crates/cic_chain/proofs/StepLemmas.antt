@@ -33,7 +33,8 @@ use Rattle.pipeline_balance.proofs.NumberedLemmas.{free_register, free_adds, fre
 use Rattle.pipeline_balance.specs.Shapes.{KeepsShapes}
 use Rattle.pipeline_balance.proofs.ShapeLemmas.{KeepsShapes-refl, KeepsShapes-trans, KeepsShapes-adds, KeepsShapes-register, KeepsShapes-bind}
 use Rattle.pipeline_balance.proofs.TakenLemmas.{IsGate-later, taken_last, taken_value-same}
-use Rattle.cic_chain.specs.Pieces.{HasRegister, IsPiece, IsNext, Steps, AddsHeld, AddsIntegrator}
+use Rattle.stage_law.specs.Alike.{HasRegister}
+use Rattle.cic_chain.specs.Pieces.{IsPiece, IsNext, Steps, AddsHeld, AddsIntegrator}
 
 -- ---- the next of a register
 

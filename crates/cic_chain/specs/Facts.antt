@@ -4,6 +4,10 @@ use Rattle.mr_values.specs.declared.plan.Element.TheVariants.{CicDown, CicUp}
 use Rattle.stage_law.specs.Facts.{StageFacts}
 use Rattle.stage_law.specs.declared.stage.Kind.TheVariants.{CicDown as CicDownKind, CicUp as CicUpKind}
 
+-- a register for each integrator, and one more than its delay for each comb. Hogenauer 1981, II
+abbrev pub cascade_registers : ℕ → ℕ → ℕ
+cascade_registers stages delay = stages + stages * (delay + 1)
+
 abbrev pub cic_down_facts : ℕ → ℕ → ℕ → StageFacts
 cic_down_facts factor stages delay = record {
   kind = CicDownKind;
@@ -16,6 +20,7 @@ cic_down_facts factor stages delay = record {
   windows = 0;
   tables = 0;
   longest = 0;
+  alike = cascade_registers stages delay;
   registers = λ period. [];
 }
 
@@ -31,6 +36,7 @@ cic_up_facts factor stages delay = record {
   windows = 0;
   tables = 0;
   longest = 0;
+  alike = cascade_registers stages delay;
   registers = λ period. [];
 }
 

@@ -15,13 +15,9 @@ use Rattle.net_graph.specs.Run.{Values, IsRun}
 use Rattle.pipeline_balance.specs.Costs.{SameNamed}
 use Rattle.pipeline_balance.specs.Gate.{HasTaken, taken_value, shown}
 use Rattle.pipeline_balance.specs.Shapes.{KeepsShapes}
-use Rattle.pipeline_balance.specs.Numbered.{IsRegister, IsCounted, IsTouched, LeavesFree, name_of}
+use Rattle.pipeline_balance.specs.Numbered.{IsCounted, IsTouched, LeavesFree}
+use Rattle.stage_law.specs.Alike.{HasRegister}
 use Rattle.cic_chain.specs.Cascade.{integrators, comb, combs, decimator, interpolator}
-
--- a register of the group has this number and this width
-pub record HasRegister (cells : List Cell) (group number width : ℕ) : Type 0 where
-  pub place : ℕ
-  pub register : IsRegister cells place group (name_of group Register number) width
 
 -- The new net leads from one node to another by so many registers of this width, numbered on from the first free number, and so many
 -- adders. No adder stands before another where none stands before `from`, and then none stands before `to`. What is added may stand in a

@@ -1,13 +1,12 @@
 // Cascades as stages of a chain.
 
 ghost use Rattle.std.specs.Prelude.{◌≡◌, ℕ, ◌<◌, ◌≤◌, ◌^◌, length, IfOk};
-ghost use Rattle.mr_values.specs.Sequence.{cic_down, cic_up};
 ghost use Rattle.mr_values.specs.Width.{IsLeastWidth};
 ghost use Rattle.net_graph.specs.Grow.{Extends};
 ghost use Rattle.stage_law.specs.Realises.{IsUnused};
 ghost use Rattle.stage_law.specs.Streams.{HasRoom};
 ghost use Rattle.cic_chain.specs.Facts.{cic_down_facts, cic_up_facts, TakesDown, TakesUp};
-ghost use Rattle.cic_chain.specs.Registers.{HasCascade, IsCascadeOf};
+ghost use Rattle.cic_chain.specs.Registers.{IsCascadeOf};
 
 use crate::decimator::decimate;
 use crate::interpolator::interpolate;
@@ -60,7 +59,6 @@ impl<const N: usize, const D: usize> CicDown<N, D> {
         requires takes { TakesDown from.period }
         requires room { HasRoom (R.streams ranges.now) (cic_down_facts self.now.factor N D).gain }
         ensures stream { IfOk result (IsCascadeOf (cic_down_facts self.now.factor N D) (R.streams ranges.now) net.old net.new from) }
-        ensures registers { IfOk result (λ _. HasCascade (R.streams ranges.now) (cic_down self.now.factor N D) net.new.cells net.old.group N D) }
         ensures extends { Extends net.old.cells net.new.cells }
         ensures same_group { net.new.group ≡ net.old.group }
     {
@@ -171,7 +169,6 @@ impl<const N: usize, const D: usize> CicUp<N, D> {
         requires takes { TakesUp self.now.factor from.period }
         requires room { HasRoom (R.streams ranges.now) (cic_up_facts self.now.factor N D).gain }
         ensures stream { IfOk result (IsCascadeOf (cic_up_facts self.now.factor N D) (R.streams ranges.now) net.old net.new from) }
-        ensures registers { IfOk result (λ _. HasCascade (R.streams ranges.now) (cic_up self.now.factor N D) net.new.cells net.old.group N D) }
         ensures extends { Extends net.old.cells net.new.cells }
         ensures same_group { net.new.group ≡ net.old.group }
     {

@@ -16,6 +16,7 @@ pub mod NodeNames
 pub mod RegisterNumbers
 pub mod RegisterGroups
 pub mod RegistersText
+pub mod CascadesText
 pub mod SumExtreme
 pub mod LeastText
 pub mod ChainRegisters

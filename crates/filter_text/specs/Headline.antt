@@ -18,7 +18,9 @@ use Rattle.verilog_text.specs.Reading.{Reads}
 use Rattle.net_module.specs.Steps.{ticks_in, pair_of}
 use Rattle.filter_text.specs.Runs.{samples_in, IsRunFrom}
 use Rattle.filter_text.specs.Registers.{HasLinearRegisters, AreLeastRegisters}
+use Rattle.filter_text.specs.Cascades.{in_module}
 use Rattle.chain_build.specs.Added.{HasFacts}
+use Rattle.chain_build.specs.Alike.{HoldsOfEachCascade}
 use Rattle.chain_build.specs.Built.{ArePlainGroups, kind_of}
 use Rattle.chain_build.specs.Linear.{output_range}
 use Rattle.stage_law.specs.Facts.{StageFacts}
@@ -115,7 +117,8 @@ HaveShapes number (g ∷ gs) d = (has_linear_shape (kind_of g) ≡ true → HasL
 -- The module passes every check, from any content it runs over any cycles, cut and uncut, its output has the least width for the range
 -- of the chain's values, and it shows the chain, by its outputs in every cycle; its output register has each value at its tick. Where no group rounds, its output has the
 -- least width that holds the chain's values, and its output register is never cut. Its linear registers are those of the plan, none of
--- them ever cut after a reset and each of the least width. Its groups cost what they cost as stages, with at most one adder between two
+-- them ever cut after a reset and each of the least width. Each cascade has its integrators' and combs' registers alone, all of the
+-- least width for its output. Its groups cost what they cost as stages, with at most one adder between two
 -- registers, and their statements have the shapes of their forms. Each always block sets its register to 0 under `rst`, and else gives it
 -- its next value under `ce`, with no other condition; so a reset sets all registers to 0, and without `ce` they stay. Its ports that carry
 -- numbers are signed, as wide as a sample and as the output register, which `out_data` shows. Its names are those of ports, of the output
@@ -133,6 +136,7 @@ pub record IsModuleOf (elements : List Element) (width ticks latency period : �
   pub uncut : ArePlainGroups (groups elements) → KeepsWhole elements width ticks latency period design
   pub registers : HasLinearRegisters elements width ticks design
   pub least : AreLeastRegisters elements width ticks design
+  pub cascades : HoldsOfEachCascade (in_module design) width ticks elements
   pub costs : AreCounted 1 (groups elements) design
   pub shapes : HaveShapes 1 (groups elements) design
   pub blocks : HasHeldBlocks design

@@ -1,3 +1,4 @@
+pub mod Cascades
 pub mod Headline
 pub mod Registers
 pub mod Runs

@@ -166,6 +166,7 @@ module _ {old first second new : NetView} {from stream : Stream} {window roots r
             let s2 = sums.shallow (subst (λ (g : ℕ). IsShallow first.cells g) (sym same) s1) (subst (λ (g : ℕ). ArePlain first.cells g window) (sym same) w.plain) in
             shallow_more old.group data_group s.grows s.adders (subst (λ (g : ℕ). IsShallow second.cells g) same s2);
         shapes = λ kind. (KeepsShapes-trans w.linear (KeepsShapes-trans p.linear s.linear)).each old.group data_group;
+        alike = λ kind. absurd (cc);
         names = record { free = λ name other f. touched.free name (λ own. other (own_names old.group name own)) f };
         registers = λ linear.
             has_registers old.cells positive windows_part (no_part pair_count) trees_part touched unused facts refl (omega (arith, levels_are)) (omega (arith, long)) (registers_small taps up some) emitted.peaks.items peaks_are;

@@ -52,6 +52,7 @@ polyphase_facts taps up down = record {
   windows = depth_of taps up;
   tables = 0;
   longest = depth_of taps up + 1;
+  alike = 0;
   registers = λ period. registers_of taps up;
 }
 

@@ -103,6 +103,7 @@ Realises-rounding {old} {mid} {new} {from} {sum} {register} {range} {shift} {mod
       ∙ ap (round_value mode shift) shown_is));
   whole = λ linear. absurd (cc);
   shapes = λ kind. absurd (cc);
+  alike = λ kind. absurd (cc);
   registers = λ linear. absurd (cc);
   adders = d.same_adders.each old.group data_group ∙ m.counts;
   windows = d.same_named.windows old.group ∙ m.same_named.windows old.group ∙ omega arith;

@@ -19,7 +19,7 @@ rounding_adders HalfEven = 1
 rounding_adders Floor = 0
 
 abbrev pub rounding_facts : ℕ → Mode → StageFacts
-rounding_facts shift mode = record { kind = Rounding; elements = Round (pos shift) mode ∷ []; up = 1; down = 1; delay = λ period. 1; gain = 1; adders = rounding_adders mode; windows = 0; tables = 0; longest = 0; registers = λ period. [] }
+rounding_facts shift mode = record { kind = Rounding; elements = Round (pos shift) mode ∷ []; up = 1; down = 1; delay = λ period. 1; gain = 1; adders = rounding_adders mode; windows = 0; tables = 0; longest = 0; alike = 0; registers = λ period. [] }
 
 abbrev pub rounding_takes : ℕ → Type 0
 rounding_takes period = 1 ≤ period

@@ -20,5 +20,7 @@ pub record StageFacts : Type 0 where
   pub tables : ℕ
   -- the greatest length of a form of its peaks
   pub longest : ℕ
+  -- how many registers a stage has whose registers are all of one width
+  pub alike : ℕ
   -- the registers of a linear stage, by the period of its stream
   pub registers : ℕ → List StageRegister

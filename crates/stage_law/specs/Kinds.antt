@@ -1,4 +1,5 @@
--- Which stages are linear, which carry their elements in whole numbers, and which have the nodes of a linear group alone.
+-- Which stages are linear, which carry their elements in whole numbers, which have the nodes of a linear group alone, and which have registers
+-- of one width.
 use Rattle.std.specs.Prelude.{Bool, true, false}
 use Rattle.stage_law.specs.declared.stage.Kind.{Kind}
 use Rattle.stage_law.specs.declared.stage.Kind.TheVariants.{Parallel, Symmetric, HalfBand, Folded, Distributed, CicDown, CicUp, Rounding, Clipping}
@@ -38,3 +39,15 @@ has_linear_shape CicDown = true
 has_linear_shape CicUp = true
 has_linear_shape Rounding = false
 has_linear_shape Clipping = false
+
+-- its registers are all of the least width for what it gives
+abbrev pub has_one_width : Kind → Bool
+has_one_width Parallel = false
+has_one_width Symmetric = false
+has_one_width HalfBand = false
+has_one_width Folded = false
+has_one_width Distributed = false
+has_one_width CicDown = true
+has_one_width CicUp = true
+has_one_width Rounding = false
+has_one_width Clipping = false

@@ -18,8 +18,9 @@ use Rattle.net_graph.specs.WellFormed.{IsBound, IsFree}
 use Rattle.pipeline_balance.specs.Gate.{Carries}
 use Rattle.pipeline_balance.specs.Numbered.{LeavesFree, name_of}
 use Rattle.pipeline_balance.specs.Shapes.{HasLinearItems}
+use Rattle.stage_law.specs.Alike.{HasAlike}
 use Rattle.stage_law.specs.Facts.{StageFacts}
-use Rattle.stage_law.specs.Kinds.{carries_uncut, is_linear, has_linear_shape}
+use Rattle.stage_law.specs.Kinds.{carries_uncut, is_linear, has_linear_shape, has_one_width}
 use Rattle.stage_law.specs.Least.{HasRegisters}
 use Rattle.stage_law.specs.Streams.{Streams}
 use Rattle.stage_law.specs.declared.stage.Emitted.{Emitted}
@@ -45,8 +46,9 @@ CarriesThrough cut streams elements cells from to =
 -- The net grows by nodes of its group and of control. The stream that the stage gives has the stated period and offset and carries the
 -- elements, in the run and, for all stages but a rounding, in the uncut run. The net has so many adders, windows and tables more of its
 -- group, and names of this group or of control alone are taken. Where the group is new and each register had its next, at most one adder
--- of the group stands between two registers. The registers of a linear stage are those of its list. A stage with the shape of a linear
--- group adds to its group only sums, differences, constants, shifts up, choices by control and registers.
+-- of the group stands between two registers. The registers of a linear stage are those of its list; a stage with registers of one width has so
+-- many, of the least width for what it gives. A stage with the shape of a linear group adds to its group only sums, differences, constants,
+-- shifts up, choices by control and registers.
 pub record Realises (facts : StageFacts) (streams : Streams) (old new : NetView) (from : Stream) (emitted : Emitted) : Type 0 where
   pub grows : Grows old new
   pub within : emitted.stream.node.place < length new.cells
@@ -60,4 +62,5 @@ pub record Realises (facts : StageFacts) (streams : Streams) (old new : NetView)
   pub names : LeavesFree old.cells new.cells (IsOwnName old.group)
   pub shallow : IsBound old.cells → IsUntouched old.cells old.group → IsShallow new.cells old.group
   pub shapes : has_linear_shape facts.kind ≡ true → HasLinearItems old.cells old.group → HasLinearItems new.cells old.group
+  pub alike : has_one_width facts.kind ≡ true → HasAlike streams (chain facts.elements) new.cells old.group facts.alike
   pub registers : is_linear facts.kind ≡ true → HasRegisters facts streams new.cells old.group from emitted.peaks.items

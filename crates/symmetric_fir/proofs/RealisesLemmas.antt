@@ -299,6 +299,7 @@ module _ {old first new : NetView} {from : Stream} {window pair_nodes registers 
         names = record { free = λ name other f. touched.free name (λ own. other (own_names old.group name own)) f };
         shallow = λ bound none. shallow_all (IsShallow-none old.cells old.group bound none);
         shapes = λ kind. (KeepsShapes-trans w.linear (KeepsShapes-trans a.linear (KeepsShapes-trans b.linear s.tree.tree.shallow.linear))).each old.group data_group;
+        alike = λ kind. absurd (cc);
         registers = λ linear.
             has_registers old.cells positive windows_part pairs_part later_part touched unused facts refl (omega (arith, levels_are)) (omega (arith, long)) (registers_small anti taps mirrored) emitted.peaks.items peaks_are;
       }

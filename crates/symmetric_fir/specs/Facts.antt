@@ -41,6 +41,7 @@ mirror_facts anti taps down = record {
   windows = length taps;
   tables = 0;
   longest = length taps + 1;
+  alike = 0;
   registers = λ period. registers_of anti taps;
 }
 

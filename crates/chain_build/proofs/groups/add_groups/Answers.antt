@@ -6,6 +6,7 @@ use Rattle.mr_values.specs.Value.{size}
 use Rattle.chain_build.specs.declared.groups.GroupCost.{GroupCost}
 use Rattle.chain_build.specs.Built.{has_rounding}
 use Rattle.net_graph.specs.Cells.{NetView}
+use Rattle.chain_build.proofs.AlikeSoFar.{cascades_next, cascades_end}
 use Rattle.chain_build.proofs.GroupsSoFar.{has_group, grouped_end}
 use Rattle.chain_build.proofs.CostsSoFar.{CostsSoFar, CostsSoFar-first, CostsSoFar-next, CostsSoFar-end, shapes-end}
 use Rattle.chain_build.proofs.RegistersSoFar.{RegistersSoFar, RegistersSoFar-start}
@@ -25,6 +26,7 @@ loop-fact-init c = (
     subst (λ (es : List Element). RegistersSoFar (size c.args.plan.now.width) (size c.args.plan.now.ticks) c.args.plan.now.elements c.set_group.new.self.cells c.args.from [] (groups es) (input (size c.args.plan.now.width) (size c.args.plan.now.ticks)) 1) (sym c.as_slice-rest.ensures)
         (RegistersSoFar-start (size c.args.plan.now.width) (size c.args.plan.now.ticks) c.args.plan.now.elements c.set_group.new.self.cells c.args.from),
     PeaksSoFar-start (size c.args.plan.now.width) (size c.args.plan.now.ticks) c.args.plan.now.elements c.set_group.new.self.cells (groups c.as_slice-rest.result.now) c.args.peaks.now.items (ap groups c.as_slice-rest.ensures) c.requires.none,
+    tt,
   ),
   CostsSoFar-first (groups c.args.plan.now.elements) (groups c.as_slice-rest.result.now) c.args.net.now c.set_group.new.self c.new-costs.result.items (ap groups c.as_slice-rest.ensures) c.set_group.ensures c.new-costs.ensures.items c.requires.bound c.requires.ungrouped c.requires.nameless,
   record { own = inr refl },
@@ -51,6 +53,7 @@ loop-fact-preserved c =
         rounded-more c.loop-fact.invariant.0.0 _ c.loop-fact.rounded _ c.loop-fact.invariant.0.2 c.is_rounding-rounded.ensures,
         registers_next c.requires.accepted so c.in-Some.ensures c.loop-fact.rounded c.loop-fact.invariant.0.2 c.loop-fact.invariant.0.3 c.set_group-in-loop-fact.new.self c.in_ok-added.added c.set_group-in-loop-fact.ensures c.in_ok-added.ensures.ok,
         peaks_next c.requires.accepted so c.in-Some.ensures c.loop-fact.rounded c.loop-fact.invariant.0.2 c.set_group-in-loop-fact.ensures c.in_ok-added.ensures.ok c.in_ok-added.ensures.peaks c.loop-fact.invariant.0.4,
+        cascades_next c.requires.accepted so c.in-Some.ensures c.loop-fact.rounded c.loop-fact.invariant.0.2 c.set_group-in-loop-fact.ensures c.in_ok-added.ensures.ok c.loop-fact.invariant.0.5,
       ),
       subst (λ (costs : List GroupCost). CostsSoFar (groups c.args.plan.now.elements) c.add_next.new.net.cells (groups c.in-Some.others.now) costs (c.loop-fact.number + 1)) (sym c.in_ok-push.ensures.items)
           (CostsSoFar-next c.loop-fact.invariant.1 c.in-Some.ensures.parts (λ name data_kind more. c.loop-fact.invariant.0.1.names name data_kind (inl more)) c.set_group-in-loop-fact.new.self _ c.loop-fact.last c.in_ok-added.added c.set_group-in-loop-fact.ensures c.in_ok-added.ensures.ok),
@@ -68,6 +71,7 @@ returns c =
       registers = registers_end so c.loop-fact.invariant.0.3;
       costs = CostsSoFar-end c.loop-fact.invariant.1 (SoFar-none so);
       peaks = peaks_end so c.loop-fact.invariant.0.4;
+      cascades = cascades_end so c.loop-fact.invariant.0.5;
       shapes = shapes-end c.loop-fact.invariant.1 (SoFar-none so);
       groups = grouped_end c.loop-fact.invariant.1 (SoFar-none so) (λ name data_kind more. so.names name data_kind (inl more)) c.loop-fact.invariant.2 (has_group c.args.plan.now c.requires.accepted);
     }

@@ -25,6 +25,7 @@ use Rattle.filter_text.proofs.LeastOutput.{least_output}
 use Rattle.plan_laws.proofs.Passes.{passes_of}
 use Rattle.filter_text.proofs.CountedText.{chain_counted, chain_costs}
 use Rattle.filter_text.proofs.RegistersText.{registers_text}
+use Rattle.filter_text.proofs.CascadesText.{cascades_text}
 use Rattle.filter_text.proofs.LeastText.{least_text}
 use Rattle.filter_text.proofs.ShapesText.{chain_shaped}
 use Rattle.filter_text.proofs.NamesText.{chain_blocks, chain_ports, chain_names, chain_control, chain_outputs_plain, chain_reset}
@@ -89,6 +90,7 @@ returns c =
                 (subst (λ (l : ℕ). KeepsWhole es W T l (last_stream W T es).period d) (sym c.requires.are_facts.latency_is) (keeps_whole wide narrow some net d as_written plain));
             registers = registers;
             least = least_text some d registers (has_extremes told);
+            cascades = cascades_text wide narrow some net small d as_written few c.in_ok-built.ensures.cascades;
             costs = chain_counted es c.in_ok-built.built.costs.items cells few net.netlist small has d as_written;
             shapes = chain_shaped es cells few net.netlist small has.no_tables c.in_ok-built.ensures.shapes d as_written;
             blocks = chain_blocks net can d as_written;
