@@ -7,7 +7,7 @@ use Rattle.std.specs.Option.{option_map}
 use Rattle.verilog_tree.specs.declared.fault.ModuleFault.{ModuleFault}
 use Rattle.verilog_tree.specs.declared.fault.ModuleFault.TheVariants.{Redeclared, Undeclared, PortShape, WrongKind, WidthOver, BadSelect, ManyDrivers, NoDriver, CombLoop, Memory}
 use Rattle.verilog_tree.specs.Alike.{SameName, IsAlikeTree, AreAlikeTrees, AreAlikeAssigns, IsAlike}
-use Rattle.verilog_tree.specs.Checks.{or_else, undeclared, wrong_port, wrong_kind, width_over, bad_select, many_drivers, no_driver, redeclared, named, early_fault, DependsBy, DependsOnItself, IsLoopFault, Fails, Early, Loop}
+use Rattle.verilog_tree.specs.Checks.{or_else, undeclared, wrong_port, wrong_kind, width_over, bad_select, many_drivers, no_driver, redeclared, named, early_fault, DependsBy, DependsOnItself, IsLoopFault, Face, FailsAs, Early, Loop}
 use Rattle.verilog_tree.specs.Cycle.{reads, any_reads}
 use Rattle.verilog_tree.specs.Names.{text_of}
 use Rattle.verilog_tree.specs.Renaming.{AreDistinct}
@@ -30,12 +30,12 @@ first (Some a) k number numbered rest n others f is = let e : k a ≡ f = cc in 
 abbrev number_by : Bool → Bool → Bool → Bool → Bool → Bool → Bool → ℕ
 number_by u p k w b m n = cond u 2 (cond p 3 (cond k 4 (cond w 5 (cond b 6 (cond m 7 (cond n 8 0))))))
 
-abbrev later_number : Design → ℕ
-later_number d =
-    number_by (is_some (undeclared d)) (is_some (wrong_port d)) (is_some (wrong_kind d)) (is_some (width_over d)) (is_some (bad_select d)) (is_some (many_drivers d)) (is_some (no_driver d))
+abbrev later_number : Face → Design → ℕ
+later_number face d =
+    number_by (is_some (undeclared d)) (is_some (wrong_port face d)) (is_some (wrong_kind d)) (is_some (width_over d)) (is_some (bad_select d)) (is_some (many_drivers d)) (is_some (no_driver d))
 
-abbrev early_number : Design → ℕ
-early_number d = cond (is_some (redeclared d)) 1 (later_number d)
+abbrev early_number : Face → Design → ℕ
+early_number face d = cond (is_some (redeclared d)) 1 (later_number face d)
 
 last : (d : Design) (f : ModuleFault) → named d NoDriver (no_driver d) ≡ Some f → check_number f ≡ cond (is_some (no_driver d)) 8 0
 last d f is = by (no_driver d) is
@@ -44,11 +44,11 @@ last d f is = by (no_driver d) is
     by None h = absurd (cc)
     by (Some k) h = let e : NoDriver (text_of d k) ≡ f = cc in ap check_number (sym e)
 
-numbered : (d : Design) (f : ModuleFault) → early_fault d ≡ Some f → check_number f ≡ early_number d
-numbered d f is =
+numbered : (face : Face) (d : Design) (f : ModuleFault) → early_fault face d ≡ Some f → check_number f ≡ early_number face d
+numbered face d f is =
     first (redeclared d) (λ k. Redeclared (text_of d k)) 1 (λ k. refl) _ _ (
     first (undeclared d) (λ k. Undeclared (text_of d k)) 2 (λ k. refl) _ _ (
-    first (wrong_port d) PortShape 3 (λ k. refl) _ _ (
+    first (wrong_port face d) PortShape 3 (λ k. refl) _ _ (
     first (wrong_kind d) (λ k. WrongKind (text_of d k)) 4 (λ k. refl) _ _ (
     first (width_over d) WidthOver 5 (λ k. refl) _ _ (
     first (bad_select d) (λ k. BadSelect (text_of d k)) 6 (λ k. refl) _ _ (
@@ -163,55 +163,6 @@ module _ (d e : Design) (alike : IsAlike d e) (distinct_d : AreDistinct d.names)
   equal : (m n k l : ℕ) → Same m n → Same k l → (m == k) ≡ (n == l)
   equal = same_equal d.names e.names distinct_d distinct_e
 
-  same_number : early_number d ≡ early_number e
-  same_number = by (is_some (redeclared d)) (is_some (redeclared e)) refl refl (same_redeclared d e alike distinct_d distinct_e)
-    where
-      rest : redeclared d ≡ None → redeclared e ≡ None → later_number d ≡ later_number e
-      rest none_d none_e =
-          let apart_d = redeclared_apart d e alike distinct_d distinct_e d none_d in
-          let apart_e = redeclared_apart d e alike distinct_d distinct_e e none_e in
-          λ i. number_by (same_undeclared d e alike distinct_d distinct_e apart_d apart_e i) (same_ports d e alike distinct_d distinct_e i) (same_kinds d e alike distinct_d distinct_e apart_d apart_e i)
-          (same_widths d e alike distinct_d distinct_e apart_d apart_e i) (same_selects d e alike distinct_d distinct_e apart_d apart_e i) (same_many d e alike distinct_d distinct_e i) (same_undriven d e alike distinct_d distinct_e i)
-
-      by : (a b : Bool) → is_some (redeclared d) ≡ a → is_some (redeclared e) ≡ b → is_some (redeclared d) ≡ is_some (redeclared e) → early_number d ≡ early_number e
-      by true true p q same = ap (λ (c : Bool). cond c 1 (later_number d)) p ∙ sym (ap (λ (c : Bool). cond c 1 (later_number e)) q)
-      by false false p q same =
-          ap (λ (c : Bool). cond c 1 (later_number d)) p ∙ rest (none_is (redeclared d) p) (none_is (redeclared e) q) ∙ sym (ap (λ (c : Bool). cond c 1 (later_number e)) q)
-      by true false p q same = absurd (cc)
-      by false true p q same = absurd (cc)
-
-  none_there : NoneFails d → NoneFails e
-  none_there n =
-      let none_e = none_is (redeclared e) (sym (same_redeclared d e alike distinct_d distinct_e) ∙ is_none (redeclared d) n.redeclares) in
-      let apart_d = redeclared_apart d e alike distinct_d distinct_e d n.redeclares in
-      let apart_e = redeclared_apart d e alike distinct_d distinct_e e none_e in
-      record {
-        redeclares = none_e;
-        undeclares = none_is (undeclared e) (sym (same_undeclared d e alike distinct_d distinct_e apart_d apart_e) ∙ is_none (undeclared d) n.undeclares);
-        ports = none_is (wrong_port e) (sym (same_ports d e alike distinct_d distinct_e) ∙ is_none (wrong_port d) n.ports);
-        kinds = none_is (wrong_kind e) (sym (same_kinds d e alike distinct_d distinct_e apart_d apart_e) ∙ is_none (wrong_kind d) n.kinds);
-        widths = none_is (width_over e) (sym (same_widths d e alike distinct_d distinct_e apart_d apart_e) ∙ is_none (width_over d) n.widths);
-        selects = none_is (bad_select e) (sym (same_selects d e alike distinct_d distinct_e apart_d apart_e) ∙ is_none (bad_select d) n.selects);
-        drivers = none_is (many_drivers e) (sym (same_many d e alike distinct_d distinct_e) ∙ is_none (many_drivers d) n.drivers);
-        driven = none_is (no_driver e) (sym (same_undriven d e alike distinct_d distinct_e) ∙ is_none (no_driver d) n.driven);
-      }
-
-  none_back : NoneFails e → NoneFails d
-  none_back n =
-      let none_d = none_is (redeclared d) (same_redeclared d e alike distinct_d distinct_e ∙ is_none (redeclared e) n.redeclares) in
-      let apart_d = redeclared_apart d e alike distinct_d distinct_e d none_d in
-      let apart_e = redeclared_apart d e alike distinct_d distinct_e e n.redeclares in
-      record {
-        redeclares = none_d;
-        undeclares = none_is (undeclared d) (same_undeclared d e alike distinct_d distinct_e apart_d apart_e ∙ is_none (undeclared e) n.undeclares);
-        ports = none_is (wrong_port d) (same_ports d e alike distinct_d distinct_e ∙ is_none (wrong_port e) n.ports);
-        kinds = none_is (wrong_kind d) (same_kinds d e alike distinct_d distinct_e apart_d apart_e ∙ is_none (wrong_kind e) n.kinds);
-        widths = none_is (width_over d) (same_widths d e alike distinct_d distinct_e apart_d apart_e ∙ is_none (width_over e) n.widths);
-        selects = none_is (bad_select d) (same_selects d e alike distinct_d distinct_e apart_d apart_e ∙ is_none (bad_select e) n.selects);
-        drivers = none_is (many_drivers d) (same_many d e alike distinct_d distinct_e ∙ is_none (many_drivers e) n.drivers);
-        driven = none_is (no_driver d) (same_undriven d e alike distinct_d distinct_e ∙ is_none (no_driver e) n.driven);
-      }
-
   loop_there : (n : ℕ) → DependsOnItself d n → (n' : ℕ) × DependsOnItself e n'
   loop_there = itself_over Same d e (one_there d.names e.names distinct_d distinct_e)
       (λ i a at.
@@ -248,15 +199,67 @@ module _ (d e : Design) (alike : IsAlike d e) (distinct_d : AreDistinct d.names)
   loop_number f (NoDriver name) is = absurd is
   loop_number f Memory is = absurd is
 
-  same_fails : (fault other : ModuleFault) → Fails d fault → Fails e other → check_number fault ≡ check_number other
-  same_fails fault other (Early p) (Early q) = numbered d fault p ∙ same_number ∙ sym (numbered e other q)
-  same_fails fault other (Loop p u) (Loop q v) = loop_number d fault u ∙ sym (loop_number e other v)
-  same_fails fault other (Early p) (Loop q v) = absurd (let h = early_none d (none_back (none_fails e q)) in cc)
-  same_fails fault other (Loop p u) (Early q) = absurd (let h = early_none e (none_there (none_fails d p)) in cc)
+  -- ---- with the ports of a face
 
-  pub same_checks : HaveSameChecks d e
-  same_checks = record {
-    there = λ passes. record { early = early_none e (none_there (none_fails d passes.early)); free = λ n loop. let b = loop_back n loop in passes.free b.0 b.1 };
-    back = λ passes. record { early = early_none d (none_back (none_fails e passes.early)); free = λ n loop. let b = loop_there n loop in passes.free b.0 b.1 };
-    same = same_fails;
-  }
+  module _ (face : Face) where
+    same_number : early_number face d ≡ early_number face e
+    same_number = by (is_some (redeclared d)) (is_some (redeclared e)) refl refl (same_redeclared d e alike distinct_d distinct_e)
+      where
+        rest : redeclared d ≡ None → redeclared e ≡ None → later_number face d ≡ later_number face e
+        rest none_d none_e =
+            let apart_d = redeclared_apart d e alike distinct_d distinct_e d none_d in
+            let apart_e = redeclared_apart d e alike distinct_d distinct_e e none_e in
+            λ i. number_by (same_undeclared d e alike distinct_d distinct_e apart_d apart_e i) (same_ports d e alike distinct_d distinct_e face i) (same_kinds d e alike distinct_d distinct_e apart_d apart_e i)
+            (same_widths d e alike distinct_d distinct_e apart_d apart_e i) (same_selects d e alike distinct_d distinct_e apart_d apart_e i) (same_many d e alike distinct_d distinct_e i) (same_undriven d e alike distinct_d distinct_e i)
+
+        by : (a b : Bool) → is_some (redeclared d) ≡ a → is_some (redeclared e) ≡ b → is_some (redeclared d) ≡ is_some (redeclared e) → early_number face d ≡ early_number face e
+        by true true p q same = ap (λ (c : Bool). cond c 1 (later_number face d)) p ∙ sym (ap (λ (c : Bool). cond c 1 (later_number face e)) q)
+        by false false p q same =
+            ap (λ (c : Bool). cond c 1 (later_number face d)) p ∙ rest (none_is (redeclared d) p) (none_is (redeclared e) q) ∙ sym (ap (λ (c : Bool). cond c 1 (later_number face e)) q)
+        by true false p q same = absurd (cc)
+        by false true p q same = absurd (cc)
+
+    none_there : NoneFails face d → NoneFails face e
+    none_there n =
+        let none_e = none_is (redeclared e) (sym (same_redeclared d e alike distinct_d distinct_e) ∙ is_none (redeclared d) n.redeclares) in
+        let apart_d = redeclared_apart d e alike distinct_d distinct_e d n.redeclares in
+        let apart_e = redeclared_apart d e alike distinct_d distinct_e e none_e in
+        record {
+          redeclares = none_e;
+          undeclares = none_is (undeclared e) (sym (same_undeclared d e alike distinct_d distinct_e apart_d apart_e) ∙ is_none (undeclared d) n.undeclares);
+          ports = none_is (wrong_port face e) (sym (same_ports d e alike distinct_d distinct_e face) ∙ is_none (wrong_port face d) n.ports);
+          kinds = none_is (wrong_kind e) (sym (same_kinds d e alike distinct_d distinct_e apart_d apart_e) ∙ is_none (wrong_kind d) n.kinds);
+          widths = none_is (width_over e) (sym (same_widths d e alike distinct_d distinct_e apart_d apart_e) ∙ is_none (width_over d) n.widths);
+          selects = none_is (bad_select e) (sym (same_selects d e alike distinct_d distinct_e apart_d apart_e) ∙ is_none (bad_select d) n.selects);
+          drivers = none_is (many_drivers e) (sym (same_many d e alike distinct_d distinct_e) ∙ is_none (many_drivers d) n.drivers);
+          driven = none_is (no_driver e) (sym (same_undriven d e alike distinct_d distinct_e) ∙ is_none (no_driver d) n.driven);
+        }
+
+    none_back : NoneFails face e → NoneFails face d
+    none_back n =
+        let none_d = none_is (redeclared d) (same_redeclared d e alike distinct_d distinct_e ∙ is_none (redeclared e) n.redeclares) in
+        let apart_d = redeclared_apart d e alike distinct_d distinct_e d none_d in
+        let apart_e = redeclared_apart d e alike distinct_d distinct_e e n.redeclares in
+        record {
+          redeclares = none_d;
+          undeclares = none_is (undeclared d) (same_undeclared d e alike distinct_d distinct_e apart_d apart_e ∙ is_none (undeclared e) n.undeclares);
+          ports = none_is (wrong_port face d) (same_ports d e alike distinct_d distinct_e face ∙ is_none (wrong_port face e) n.ports);
+          kinds = none_is (wrong_kind d) (same_kinds d e alike distinct_d distinct_e apart_d apart_e ∙ is_none (wrong_kind e) n.kinds);
+          widths = none_is (width_over d) (same_widths d e alike distinct_d distinct_e apart_d apart_e ∙ is_none (width_over e) n.widths);
+          selects = none_is (bad_select d) (same_selects d e alike distinct_d distinct_e apart_d apart_e ∙ is_none (bad_select e) n.selects);
+          drivers = none_is (many_drivers d) (same_many d e alike distinct_d distinct_e ∙ is_none (many_drivers e) n.drivers);
+          driven = none_is (no_driver d) (same_undriven d e alike distinct_d distinct_e ∙ is_none (no_driver e) n.driven);
+        }
+
+    same_fails : (fault other : ModuleFault) → FailsAs face d fault → FailsAs face e other → check_number fault ≡ check_number other
+    same_fails fault other (Early p) (Early q) = numbered face d fault p ∙ same_number ∙ sym (numbered face e other q)
+    same_fails fault other (Loop p u) (Loop q v) = loop_number d fault u ∙ sym (loop_number e other v)
+    same_fails fault other (Early p) (Loop q v) = absurd (let h = early_none face d (none_back (none_fails face e q)) in cc)
+    same_fails fault other (Loop p u) (Early q) = absurd (let h = early_none face e (none_there (none_fails face d p)) in cc)
+
+    pub same_checks : HaveSameChecks face d e
+    same_checks = record {
+      there = λ passes. record { early = early_none face e (none_there (none_fails face d passes.early)); free = λ n loop. let b = loop_back n loop in passes.free b.0 b.1 };
+      back = λ passes. record { early = early_none face d (none_back (none_fails face e passes.early)); free = λ n loop. let b = loop_there n loop in passes.free b.0 b.1 };
+      same = same_fails;
+    }

@@ -1,12 +1,13 @@
 -- Modules that are alike have the same checks, but for the signal that a check names.
 use Rattle.std.proofs.Common.{◌≡◌, ℕ, Bool, false, cond, not, ◌&&◌, ◌||◌, List, [], find, Option, None, Some, refl, sym, ◌∙◌, ap}
 use Rattle.std.specs.Prelude.{◌==◌, nat_le, nat_lt, is_some, bytes_eq, codes}
+use Rattle.std.specs.List.{list_any}
 use Rattle.std.specs.Option.{option_map, option_map_or}
 use Rattle.std.proofs.Math.Path.{fun_ext}
 use Rattle.verilog_tree.specs.declared.tree.Signal.{Signal}
 use Rattle.verilog_tree.specs.declared.tree.Kind.{Kind}
 use Rattle.verilog_tree.specs.Alike.{SameName, IsAlikeSignal, IsAlike}
-use Rattle.verilog_tree.specs.Checks.{or_else, Use, Assigned, Given, Read, Selected, used_name, uses, is_declared, undeclared, is_port, is_input_port, is_right_input, is_right_output, is_right_port, port_names, has_port, wrong_port, is_of_kind, can_be_assigned, can_be_given, is_clock, is_wrong_use, wrong_kind, is_over, has_over, Side, sides, width_over, is_bad_select, bad_select, Drive, drives, many_drivers, needs_driver, is_driven, no_driver, declarations, named}
+use Rattle.verilog_tree.specs.Checks.{or_else, Use, Assigned, Given, Read, Selected, used_name, uses, is_declared, undeclared, is_port, is_input_port, Port, Face, face_names, is_as, is_right_port, has_port, wrong_port, is_of_kind, can_be_assigned, can_be_given, is_clock, is_wrong_use, wrong_kind, is_over, has_over, Side, sides, width_over, is_bad_select, bad_select, Drive, drives, many_drivers, needs_driver, is_driven, no_driver, declarations, named}
 use Rattle.verilog_tree.specs.Names.{declaration_in, shapes_of, text_of}
 use Rattle.verilog_tree.specs.Renaming.{AreDistinct}
 use Rattle.verilog_tree.specs.Tree.{Design}
@@ -61,45 +62,38 @@ module _ (d e : Design) (alike : IsAlike d e) (distinct_d : AreDistinct d.names)
 
   -- ---- ports
 
-  right_input : (text other : List ℕ) (s t : Signal) → text ≡ other → IsAlikeSignal Same s t → is_right_input text s ≡ is_right_input other t
-  right_input text other s t named a = λ i.
-      ((bytes_eq (named i) (codes "clk") || (bytes_eq (named i) (codes "rst") || bytes_eq (named i) (codes "ce"))) && (not (a.ranged i) && (not (a.signed i) && a.width i == 1)))
-      || (bytes_eq (named i) (codes "in_data") && (nat_le 1 (a.width i) && nat_le (a.width i) 127))
+  as_port : (p : Port) (text other : List ℕ) (s t : Signal) → text ≡ other → IsAlikeSignal Same s t → is_as p text s ≡ is_as p other t
+  as_port p text other s t named a = λ i.
+      bytes_eq (named i) p.text && (cond p.input (is_input_port (a.kind i)) (not (is_input_port (a.kind i))) && cond p.bit (not (a.ranged i) && (not (a.signed i) && a.width i == 1)) (nat_le 1 (a.width i) && nat_le (a.width i) 127))
 
-  right_output : (text other : List ℕ) (s t : Signal) → text ≡ other → IsAlikeSignal Same s t → is_right_output text s ≡ is_right_output other t
-  right_output text other s t named a = λ i.
-      (bytes_eq (named i) (codes "out_valid") && (not (a.ranged i) && (not (a.signed i) && a.width i == 1))) || (bytes_eq (named i) (codes "out_data") && (nat_le 1 (a.width i) && nat_le (a.width i) 127))
-
-  right_port : (s t : Signal) → IsAlikeSignal Same s t → is_right_port d s ≡ is_right_port e t
-  right_port s t a =
-      let named = texts s.name t.name a.name in
-      λ i. cond (is_input_port (a.kind i)) (right_input (text_of d s.name) (text_of e t.name) s t named a i) (right_output (text_of d s.name) (text_of e t.name) s t named a i)
+  right_port : (face : Face) (s t : Signal) → IsAlikeSignal Same s t → is_right_port face d s ≡ is_right_port face e t
+  right_port face s t a = ap (λ (test : Port → Bool). list_any test face) (fun_ext (λ p. as_port p (text_of d s.name) (text_of e t.name) s t (texts s.name t.name a.name) a))
 
   same_port : (text : List ℕ) → has_port d text ≡ has_port e text
   same_port text =
       same_any d e alike distinct_d distinct_e (λ s. is_port s.kind && bytes_eq (text_of d s.name) text) (λ t. is_port t.kind && bytes_eq (text_of e t.name) text)
       (λ s t a. λ i. is_port (a.kind i) && bytes_eq (texts s.name t.name a.name i) text)
 
-  abbrev wrong : Design → Option Signal
-  wrong f = find (λ (s : Signal). is_port s.kind && not (is_right_port f s)) (declarations f)
+  abbrev wrong : Face → Design → Option Signal
+  wrong face f = find (λ (s : Signal). is_port s.kind && not (is_right_port face f s)) (declarations f)
 
-  abbrev missing : Design → Option (List ℕ)
-  missing f = find (λ text. not (has_port f text)) port_names
+  abbrev missing : Face → Design → Option (List ℕ)
+  missing face f = find (λ text. not (has_port f text)) (face_names face)
 
-  pub same_ports : is_some (wrong_port d) ≡ is_some (wrong_port e)
-  same_ports =
-      either (option_map (λ (s : Signal). text_of d s.name) (wrong d)) (missing d)
+  pub same_ports : (face : Face) → is_some (wrong_port face d) ≡ is_some (wrong_port face e)
+  same_ports face =
+      either (option_map (λ (s : Signal). text_of d s.name) (wrong face d)) (missing face d)
       ∙ (λ i. parts i || is_some (absent i))
-      ∙ sym (either (option_map (λ (s : Signal). text_of e s.name) (wrong e)) (missing e))
+      ∙ sym (either (option_map (λ (s : Signal). text_of e s.name) (wrong face e)) (missing face e))
     where
-      parts : is_some (option_map (λ (s : Signal). text_of d s.name) (wrong d)) ≡ is_some (option_map (λ (s : Signal). text_of e s.name) (wrong e))
+      parts : is_some (option_map (λ (s : Signal). text_of d s.name) (wrong face d)) ≡ is_some (option_map (λ (s : Signal). text_of e s.name) (wrong face e))
       parts =
-          mapped (λ (s : Signal). text_of d s.name) (wrong d)
-          ∙ same_found d e alike distinct_d distinct_e (λ s. is_port s.kind && not (is_right_port d s)) (λ t. is_port t.kind && not (is_right_port e t)) (λ s t a. λ i. is_port (a.kind i) && not (right_port s t a i))
-          ∙ sym (mapped (λ (s : Signal). text_of e s.name) (wrong e))
+          mapped (λ (s : Signal). text_of d s.name) (wrong face d)
+          ∙ same_found d e alike distinct_d distinct_e (λ s. is_port s.kind && not (is_right_port face d s)) (λ t. is_port t.kind && not (is_right_port face e t)) (λ s t a. λ i. is_port (a.kind i) && not (right_port face s t a i))
+          ∙ sym (mapped (λ (s : Signal). text_of e s.name) (wrong face e))
 
-      absent : missing d ≡ missing e
-      absent = ap (λ (test : List ℕ → Bool). find (λ text. not (test text)) port_names) (fun_ext same_port)
+      absent : missing face d ≡ missing face e
+      absent = ap (λ (test : List ℕ → Bool). find (λ text. not (test text)) (face_names face)) (fun_ext same_port)
 
   -- ---- where no name is declared twice
 

@@ -8,7 +8,7 @@ use Rattle.std.proofs.lemmas.Option.{slice_get_within}
 use Rattle.std.proofs.lemmas.Slice.Eq.{bytes_eq-Decides}
 use Rattle.verilog_tree.specs.declared.tree.Signal.{Signal}
 use Rattle.verilog_tree.specs.Alike.{SameName, IsAlikeTree, plain_block, plain_action, plain_actions, IsAlikeAction, AreAlikeActions, AreAlikeBlocks, IsAlike}
-use Rattle.verilog_tree.specs.Checks.{is_port, is_right_port, port_names, has_port, declarations, Passes}
+use Rattle.verilog_tree.specs.Checks.{is_port, is_right_port, port_names, has_port, declarations, Passes, filter_face}
 use Rattle.verilog_tree.specs.Circuit.{put, Driver, IsSource, IsSettling, given_by, later, next, with_inputs}
 use Rattle.verilog_tree.specs.Cycle.{one_of, given_with, given_with_all, condition_holds, given, driver_of, process_of, circuit_of}
 use Rattle.verilog_tree.specs.Laws.{HasOneSettling}
@@ -100,7 +100,7 @@ HasPorts d = Every (λ text. not (has_port d text) ≡ false) port_names
 pub passing_ports : (d : Design) → Passes d → HasPorts d
 passing_ports d passes =
     nothing_found (λ text. not (has_port d text)) port_names
-    (no_second (option_map (λ (s : Signal). text_of d s.name) (find (λ (s : Signal). is_port s.kind && not (is_right_port d s)) (declarations d))) (find (λ text. not (has_port d text)) port_names) (none_fails d passes.early).ports)
+    (no_second (option_map (λ (s : Signal). text_of d s.name) (find (λ (s : Signal). is_port s.kind && not (is_right_port filter_face d s)) (declarations d))) (find (λ text. not (has_port d text)) port_names) (none_fails filter_face d passes.early).ports)
 
 item_at : (names : List (List ℕ)) (k : ℕ) → k < length names → slice_get names k ≡ Some (name_in names k)
 item_at [] k h = absurd (omega (arith, h))

@@ -3,7 +3,7 @@ use Rattle.std.specs.Prelude.{◌≡◌, ℕ, List, [], ◌∷◌}
 use Rattle.verilog_tree.specs.declared.fault.ModuleFault.{ModuleFault}
 use Rattle.verilog_tree.specs.declared.fault.ModuleFault.TheVariants.{Redeclared, Undeclared, PortShape, WrongKind, WidthOver, BadSelect, ManyDrivers, NoDriver, CombLoop, Memory}
 use Rattle.verilog_tree.specs.Alike.{SameName}
-use Rattle.verilog_tree.specs.Checks.{Passes, Fails}
+use Rattle.verilog_tree.specs.Checks.{Face, PassesAs, FailsAs}
 use Rattle.verilog_tree.specs.Meaning.{Values}
 use Rattle.verilog_tree.specs.Names.{shapes_of}
 use Rattle.verilog_tree.specs.Shown.{Cycle, RunsOver, ports_of, events_of}
@@ -22,11 +22,11 @@ check_number (NoDriver name) = 8
 check_number (CombLoop name) = 9
 check_number Memory = 0
 
--- each passes the checks where the other does; else the first check that fails is the same, whichever signal it names
-pub record HaveSameChecks (d e : Design) : Type 0 where
-  pub there : Passes d → Passes e
-  pub back : Passes e → Passes d
-  pub same : (fault other : ModuleFault) → Fails d fault → Fails e other → check_number fault ≡ check_number other
+-- each passes the checks with the ports of a face where the other does; else the first check that fails is the same, whichever signal it names
+pub record HaveSameChecks (face : Face) (d e : Design) : Type 0 where
+  pub there : PassesAs face d → PassesAs face e
+  pub back : PassesAs face e → PassesAs face d
+  pub same : (fault other : ModuleFault) → FailsAs face d fault → FailsAs face e other → check_number fault ≡ check_number other
 
 -- names of one text have the same pattern
 pub record AreAlikeValues (d e : Design) (v w : Values) : Type 0 where

@@ -8,7 +8,7 @@ use Rattle.verilog_tree.specs.declared.tree.Signal.{Signal}
 use Rattle.verilog_tree.specs.Tree.{Tree, Trees, Name, Bit, Part, Plain, Based, Cat, Not, Binary, Shift, Choice, none, more, Action, Actions, Block, When, Either, Give, no_action, action, Assignment, Design}
 use Rattle.verilog_tree.specs.Meaning.{Shapes, IsFitting, fits, all_fit, is_width, length_of, total_length}
 use Rattle.verilog_tree.specs.Names.{declaration_in, shapes_in, shapes_of, text_of}
-use Rattle.verilog_tree.specs.Checks.{Use, Selected, tree_uses, trees_uses, action_uses, actions_uses, blocks_uses, assigns_uses, uses, is_bad_select, is_over, has_over, any_over, used_name, declarations, Side, action_sides, actions_sides, blocks_sides, assigns_sides, sides, Passes}
+use Rattle.verilog_tree.specs.Checks.{Use, Selected, tree_uses, trees_uses, action_uses, actions_uses, blocks_uses, assigns_uses, uses, is_bad_select, is_over, has_over, any_over, used_name, declarations, Side, action_sides, actions_sides, blocks_sides, assigns_sides, sides, Passes, filter_face}
 use Rattle.verilog_tree.proofs.Parts.{fits_range, and_parts}
 use Rattle.verilog_text.specs.Grammar.{limits}
 use Rattle.verilog_text.specs.Shortest.{IsFormed, AreFormed, HasMembers, IsFormedAction, AreFormedActions, IsFormedAssignment, IsFormedBlock, IsFormedSignal, AllFormed, IsWritable}
@@ -168,8 +168,8 @@ module _ (d : Design) (count : ℕ) (widths : (n : ℕ) → IsFitting ((shapes_o
       by (suc k) a at here rest = rest k a at
 
 module _ (d : Design) (formed : IsWritable limits d) (passes : Passes d) where
-  checks : NoneFails d
-  checks = none_fails d passes.early
+  checks : NoneFails filter_face d
+  checks = none_fails filter_face d passes.early
 
   pub widths_fit : (n : ℕ) → IsFitting ((shapes_of d).width n)
   widths_fit n = record {

@@ -9,7 +9,7 @@ use Rattle.mr_values.proofs.FilesByName.{bytes_eq-equal}
 use Rattle.verilog_tree.specs.declared.tree.Signal.{Signal}
 use Rattle.verilog_tree.specs.Tree.{Design}
 use Rattle.verilog_tree.specs.Names.{text_of, number_of}
-use Rattle.verilog_tree.specs.Checks.{is_port, is_right_port, has_port, port_names, declarations, Passes}
+use Rattle.verilog_tree.specs.Checks.{is_port, is_right_port, has_port, port_names, declarations, Passes, filter_face}
 use Rattle.module_laws.proofs.TextOrder.{Every, nothing_found}
 use Rattle.module_laws.proofs.Passing.{none_fails, no_second}
 
@@ -58,7 +58,7 @@ module _ (d : Design) (passes : Passes d) where
   pub ports_there : Every (λ text. not (has_port d text) ≡ false) port_names
   ports_there =
       nothing_found (λ text. not (has_port d text)) port_names
-      (no_second (option_map (λ (s : Signal). text_of d s.name) (find (λ (s : Signal). is_port s.kind && not (is_right_port d s)) (declarations d))) _ (none_fails d passes.early).ports)
+      (no_second (option_map (λ (s : Signal). text_of d s.name) (find (λ (s : Signal). is_port s.kind && not (is_right_port filter_face d s)) (declarations d))) _ (none_fails filter_face d passes.early).ports)
 
   pub rst_inside : number_of d (codes "rst") < length d.names
   rst_inside = port_there d 114 (codes "st") (not_false _ ports_there.1.0)

@@ -13,7 +13,7 @@ use Rattle.verilog_tree.specs.declared.tree.Kind.TheVariants.{Input, Output, Wir
 use Rattle.verilog_tree.specs.Tree.{Design}
 use Rattle.verilog_tree.specs.Names.{declaration_in, shapes_in, shapes_of, text_of, number_of}
 use Rattle.verilog_tree.specs.Renaming.{number_in, name_in}
-use Rattle.verilog_tree.specs.Checks.{or_else, with_declaration, in_text_order, first_repeat, is_port, is_input_port, is_right_input, is_right_output, is_right_port, is_data_port, has_port, declarations, Passes}
+use Rattle.verilog_tree.specs.Checks.{or_else, with_declaration, in_text_order, first_repeat, is_port, is_input_port, Port, is_as, is_right_port, is_data_port, has_port, declarations, Passes, filter_face}
 use Rattle.verilog_text.specs.Grammar.{limits}
 use Rattle.verilog_text.specs.Shortest.{IsWritable}
 use Rattle.verilog_text.proofs.Numbering.{number_of_name}
@@ -169,24 +169,24 @@ module _ (d : Design) (formed : IsWritable limits d) (passes : Passes d) (c : �
       by true false e is rest = later (s.name == number) _ (rest is)
       by false b e is rest = rest is
 
-  checks : NoneFails d
-  checks = none_fails d passes.early
+  checks : NoneFails filter_face d
+  checks = none_fails filter_face d passes.early
 
-  narrow_port : ((s : Signal) → text_of d s.name ≡ text → is_right_port d s ≡ true → s.width ≤ 127) → (shapes_of d).width number ≤ 127
+  narrow_port : ((s : Signal) → text_of d s.name ≡ text → is_right_port filter_face d s ≡ true → s.width ≤ 127) → (shapes_of d).width number ≤ 127
   narrow_port right = narrow_first number d.signals (apart_from d.signals (apart [] (in_text_order d.signals) checks.redeclares)) (each d.signals wrong) (any_named d.signals there)
     where
-      wrong : Every (λ (s : Signal). (is_port s.kind && not (is_right_port d s)) ≡ false) d.signals
-      wrong = from_order (λ (s : Signal). (is_port s.kind && not (is_right_port d s)) ≡ false) d.signals
-          (nothing_found (λ (s : Signal). is_port s.kind && not (is_right_port d s)) (declarations d) (none_mapped (λ (s : Signal). text_of d s.name) _ (no_first _ _ checks.ports)))
+      wrong : Every (λ (s : Signal). (is_port s.kind && not (is_right_port filter_face d s)) ≡ false) d.signals
+      wrong = from_order (λ (s : Signal). (is_port s.kind && not (is_right_port filter_face d s)) ≡ false) d.signals
+          (nothing_found (λ (s : Signal). is_port s.kind && not (is_right_port filter_face d s)) (declarations d) (none_mapped (λ (s : Signal). text_of d s.name) _ (no_first _ _ checks.ports)))
 
       of : (a b : Bool) → (a && not b) ≡ false → a ≡ true → b ≡ true
       of true true e h = refl
       of true false e h = absurd (false≢true (sym e))
       of false b e h = absurd (false≢true h)
 
-      each : (ss : List Signal) → Every (λ (s : Signal). (is_port s.kind && not (is_right_port d s)) ≡ false) ss → Every (IsNarrowPort number) ss
+      each : (ss : List Signal) → Every (λ (s : Signal). (is_port s.kind && not (is_right_port filter_face d s)) ≡ false) ss → Every (IsNarrowPort number) ss
       each [] all = tt
-      each (s ∷ ss) all = ((λ port e. right s (ap (text_of d) e ∙ its_text) (of (is_port s.kind) (is_right_port d s) all.0 port)), each ss all.1)
+      each (s ∷ ss) all = ((λ port e. right s (ap (text_of d) e ∙ its_text) (of (is_port s.kind) (is_right_port filter_face d s) all.0 port)), each ss all.1)
 
 data_narrow : (s : Signal) → is_data_port s ≡ true → s.width ≤ 127
 data_narrow s is = leb-true s.width 127 (second (nat_le 1 s.width) (nat_le s.width 127) is)
@@ -195,23 +195,22 @@ data_narrow s is = leb-true s.width 127 (second (nat_le 1 s.width) (nat_le s.wid
     second true b e = e
     second false b e = absurd (false≢true e)
 
-abbrev IsRight : Signal → Kind → List ℕ → Type 0
-IsRight s kind text = cond (is_input_port kind) (is_right_input text s) (is_right_output text s) ≡ true
+abbrev IsRight : Signal → List ℕ → Type 0
+IsRight s text = list_any (λ (p : Port). is_as p text s) filter_face ≡ true
 
-right_in : (s : Signal) (kind : Kind) → IsRight s kind (codes "in_data") → s.width ≤ 127
-right_in s Input is = data_narrow s is
-right_in s Output is = absurd (false≢true is)
-right_in s Wire is = absurd (false≢true is)
-right_in s Reg is = absurd (false≢true is)
+second_holds : (a b : Bool) → ((a && b) || false) ≡ true → b ≡ true
+second_holds true true e = refl
+second_holds true false e = absurd (false≢true e)
+second_holds false b e = absurd (false≢true e)
 
-right_out : (s : Signal) (kind : Kind) → IsRight s kind (codes "out_data") → s.width ≤ 127
-right_out s Input is = absurd (false≢true is)
-right_out s Output is = data_narrow s is
-right_out s Wire is = data_narrow s is
-right_out s Reg is = data_narrow s is
+right_in : (s : Signal) → IsRight s (codes "in_data") → s.width ≤ 127
+right_in s is = data_narrow s (second_holds (is_input_port s.kind) (is_data_port s) is)
+
+right_out : (s : Signal) → IsRight s (codes "out_data") → s.width ≤ 127
+right_out s is = data_narrow s (second_holds (not (is_input_port s.kind)) (is_data_port s) is)
 
 pub in_data_narrow : (d : Design) → IsWritable limits d → Passes d → (shapes_of d).width (number_of d (codes "in_data")) ≤ 127
-in_data_narrow d formed passes = narrow_port d formed passes 105 (codes "n_data") (not_false _ (ports_there d passes).1.1.1.0) (λ s e is. right_in s s.kind (subst (IsRight s s.kind) e is))
+in_data_narrow d formed passes = narrow_port d formed passes 105 (codes "n_data") (not_false _ (ports_there d passes).1.1.1.0) (λ s e is. right_in s (subst (IsRight s) e is))
 
 pub out_data_narrow : (d : Design) → IsWritable limits d → Passes d → (shapes_of d).width (number_of d (codes "out_data")) ≤ 127
-out_data_narrow d formed passes = narrow_port d formed passes 111 (codes "ut_data") (not_false _ (ports_there d passes).1.1.1.1.1.0) (λ s e is. right_out s s.kind (subst (IsRight s s.kind) e is))
+out_data_narrow d formed passes = narrow_port d formed passes 111 (codes "ut_data") (not_false _ (ports_there d passes).1.1.1.1.1.0) (λ s e is. right_out s (subst (IsRight s) e is))

@@ -8,7 +8,7 @@ use Rattle.verilog_tree.specs.Meaning.{Values, assigned}
 use Rattle.verilog_tree.specs.Names.{shapes_of, declaration_in}
 use Rattle.verilog_tree.specs.Circuit.{Process}
 use Rattle.verilog_tree.specs.Cycle.{sets, any_sets, circuit_of, process_of, condition_holds}
-use Rattle.verilog_tree.specs.Checks.{Use, Assigned, Given, Read, Selected, used_name, tree_uses, trees_uses, action_uses, actions_uses, blocks_uses, assigns_uses, uses, is_declared, declarations, Passes}
+use Rattle.verilog_tree.specs.Checks.{Use, Assigned, Given, Read, Selected, used_name, tree_uses, trees_uses, action_uses, actions_uses, blocks_uses, assigns_uses, uses, is_declared, declarations, Passes, filter_face}
 use Rattle.verilog_tree.proofs.OneSettling.{gives_only, block_at}
 use Rattle.module_laws.proofs.Passing.{none_fails, none_mapped}
 use Rattle.module_laws.proofs.TextOrder.{Every, nothing_found, none_repeats, apart_from, IsApart, AllApart}
@@ -112,7 +112,7 @@ not_false false is = absurd (grind arith)
 
 pub names_registers : (d : Design) → Passes d → NamesRegisters (circuit_of d) (declared_names d)
 names_registers d passes =
-    let fails = none_fails d passes.early in
+    let fails = none_fails filter_face d passes.early in
     let declared = nothing_found (λ u. not (is_declared d (used_name u))) (uses d) (none_mapped used_name (find (λ u. not (is_declared d (used_name u))) (uses d)) fails.undeclares) in
     record {
       apart = apart_places d.signals (apart_from d.signals (none_repeats [] (declarations d) fails.redeclares).0);

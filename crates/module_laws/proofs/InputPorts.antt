@@ -12,7 +12,7 @@ use Rattle.verilog_tree.specs.declared.tree.Signal.{Signal}
 use Rattle.verilog_tree.specs.Tree.{Tree, Trees, Name, Bit, Part, Plain, Based, Cat, Not, Binary, Shift, Choice, none, more, Assignment, Design}
 use Rattle.verilog_tree.specs.Names.{declaration_in, text_of, number_of}
 use Rattle.verilog_tree.specs.Renaming.{name_in, number_in, AreDistinct}
-use Rattle.verilog_tree.specs.Checks.{Use, Assigned, tree_uses, trees_uses, assigns_uses, blocks_uses, uses, used_name, is_port, is_right_port, is_right_output, has_port, port_names, declarations, is_of_kind, can_be_assigned, is_wrong_use, Passes}
+use Rattle.verilog_tree.specs.Checks.{Use, Assigned, tree_uses, trees_uses, assigns_uses, blocks_uses, uses, used_name, is_port, is_input_port, is_bit_port, is_data_port, Port, Face, filter_face, face_names, is_as, is_right_port, has_port, port_names, declarations, is_of_kind, can_be_assigned, is_wrong_use, Passes, PassesAs}
 use Rattle.verilog_text.proofs.Numbering.{number_of_name}
 use Rattle.module_laws.proofs.TextOrder.{Every, from_order, nothing_found, AllApart, IsApart, none_repeats, apart_from}
 use Rattle.module_laws.proofs.Passing.{NoneFails, none_fails, none_mapped, no_second, no_first}
@@ -98,35 +98,48 @@ read_name [] n c text is = absurd (cc)
 read_name (name ∷ names) zero c text is = (omega arith, is)
 read_name (name ∷ names) (suc n) c text is = let r = read_name names n c text is in (omega (arith, r.0), r.1)
 
+-- ---- each port of the face is there
+
+pub face_there : (face : Face) (d : Design) → PassesAs face d → Every (λ text. not (has_port d text) ≡ false) (face_names face)
+face_there face d passes = nothing_found (λ text. not (has_port d text)) (face_names face) (no_second _ _ (none_fails face d passes.early).ports)
+
+every_at : (P : List ℕ → Type 0) (texts : List (List ℕ)) (k : ℕ) (text : List ℕ) → Every P texts → slice_get texts k ≡ Some text → P text
+every_at P [] k text all at = absurd (cc)
+every_at P (t ∷ texts) zero text all at = let same : t ≡ text = cc in subst P same all.0
+every_at P (t ∷ texts) (suc k) text all at = every_at P texts k text all.1 at
+
+pub port_there : (face : Face) (d : Design) → PassesAs face d → (k : ℕ) (text : List ℕ) → slice_get (face_names face) k ≡ Some text → has_port d text ≡ true
+port_there face d passes k text at = true_of (has_port d text) (every_at (λ t. not (has_port d t) ≡ false) (face_names face) k text (face_there face d passes) at)
+
 -- ---- what is assigned is no input port
 
 module _ (d : Design) (passes : Passes d) (distinct : AreDistinct d.names) where
-  none_wrong : NoneFails d
-  none_wrong = none_fails d passes.early
+  none_wrong : NoneFails filter_face d
+  none_wrong = none_fails filter_face d passes.early
 
   apart : AllApart d.signals
   apart = apart_from d.signals ((none_repeats [] (declarations d) none_wrong.redeclares).0)
 
-  right_ports : Every (λ (s : Signal). (is_port s.kind && not (is_right_port d s)) ≡ false) d.signals
+  right_ports : Every (λ (s : Signal). (is_port s.kind && not (is_right_port filter_face d s)) ≡ false) d.signals
   right_ports =
-      from_order _ d.signals (nothing_found (λ (s : Signal). is_port s.kind && not (is_right_port d s)) (declarations d) (none_mapped (λ (s : Signal). text_of d s.name) _ (no_first _ (find (λ text. not (has_port d text)) port_names) none_wrong.ports)))
+      from_order _ d.signals (nothing_found (λ (s : Signal). is_port s.kind && not (is_right_port filter_face d s)) (declarations d) (none_mapped (λ (s : Signal). text_of d s.name) _ (no_first _ (find (λ text. not (has_port d text)) port_names) none_wrong.ports)))
 
   assigned_kind : (k : ℕ) (a : Assignment) → slice_get d.assigns k ≡ Some a → is_of_kind can_be_assigned d a.target ≡ true
   assigned_kind k a at =
       true_of (is_of_kind can_be_assigned d a.target)
       (target_used (λ u. is_wrong_use d u ≡ false) d.assigns (blocks_uses d.blocks) (nothing_found (is_wrong_use d) (uses d) (none_mapped used_name _ none_wrong.kinds)) k a at)
 
-  is_input : (s : Signal) → is_port s.kind ≡ true → (is_port s.kind && not (is_right_port d s)) ≡ false → is_right_output (text_of d s.name) s ≡ false → s.kind ≡ Input
+  is_input : (s : Signal) → is_port s.kind ≡ true → (is_port s.kind && not (is_right_port filter_face d s)) ≡ false → (s.kind ≡ Output → is_right_port filter_face d s ≡ false) → s.kind ≡ Input
   is_input s port right output = by s.kind refl
     where
       by : (kind : Kind) → s.kind ≡ kind → s.kind ≡ Input
       by Input e = e
-      by Output e = absurd (cc)
+      by Output e = absurd (let never = output e in cc)
       by Wire e = absurd (cc)
       by Reg e = absurd (cc)
 
   -- the name of a port that is no output is not assigned
-  undriven : (c : ℕ) (text : List ℕ) → has_port d (c ∷ text) ≡ true → ((s : Signal) → is_right_output (c ∷ text) s ≡ false)
+  undriven : (c : ℕ) (text : List ℕ) → has_port d (c ∷ text) ≡ true → ((s : Signal) → s.kind ≡ Output → list_any (λ (p : Port). is_as p (c ∷ text) s) filter_face ≡ false)
       → (k : ℕ) (a : Assignment) → slice_get d.assigns k ≡ Some a → a.target ≡ number_of d (c ∷ text) → ⊥
   undriven c text there no_output k a at is =
       let found = some_among (λ (s : Signal). is_port s.kind && bytes_eq (text_of d s.name) (c ∷ text)) d.signals there in
@@ -135,18 +148,18 @@ module _ (d : Design) (passes : Passes d) (distinct : AreDistinct d.names) where
       let same = (bytes_eq-Decides (text_of d s.name) (c ∷ text)).0 parts.1 in
       let read = read_name d.names s.name c text same in
       let number : number_of d (c ∷ text) ≡ s.name = ap (λ (x : List ℕ). position_or_len (bytes_eq x) d.names) (sym read.1) ∙ first_with_text d.names s.name distinct read.0 in
-      let input = is_input s parts.0 (every_among _ s d.signals right_ports found.1) (ap (λ (x : List ℕ). is_right_output x s) same ∙ no_output s) in
+      let input = is_input s parts.0 (every_among _ s d.signals right_ports found.1) (λ e. ap (λ (x : List ℕ). list_any (λ (p : Port). is_as p x s) filter_face) same ∙ no_output s e) in
       let kind : is_of_kind can_be_assigned d (a.target) ≡ false = ap (is_of_kind can_be_assigned d) (is ∙ number) ∙ ap (λ (o : Option Signal). option_map_or (λ (t : Signal). can_be_assigned t.kind) o false) (declared_once d.signals apart s found.1) ∙ ap can_be_assigned input in
       absurd (cc (sym (assigned_kind k a at) ∙ kind))
 
   pub ports_there : Every (λ text. not (has_port d text) ≡ false) port_names
-  ports_there = nothing_found (λ text. not (has_port d text)) port_names (no_second _ _ none_wrong.ports)
+  ports_there = face_there filter_face d passes
 
   pub rst_undriven : (k : ℕ) (a : Assignment) → slice_get d.assigns k ≡ Some a → a.target ≡ number_of d (codes "rst") → ⊥
-  rst_undriven = undriven 114 (codes "st") (true_of _ ports_there.1.0) (λ s. refl)
+  rst_undriven = undriven 114 (codes "st") (true_of _ ports_there.1.0) (λ s e. ap (λ (k : Kind). (is_input_port k && is_bit_port s) || false) e)
 
   pub ce_undriven : (k : ℕ) (a : Assignment) → slice_get d.assigns k ≡ Some a → a.target ≡ number_of d (codes "ce") → ⊥
-  ce_undriven = undriven 99 (codes "e") (true_of _ ports_there.1.1.0) (λ s. refl)
+  ce_undriven = undriven 99 (codes "e") (true_of _ ports_there.1.1.0) (λ s e. ap (λ (k : Kind). (is_input_port k && is_bit_port s) || false) e)
 
   pub in_data_undriven : (k : ℕ) (a : Assignment) → slice_get d.assigns k ≡ Some a → a.target ≡ number_of d (codes "in_data") → ⊥
-  in_data_undriven = undriven 105 (codes "n_data") (true_of _ ports_there.1.1.1.0) (λ s. refl)
+  in_data_undriven = undriven 105 (codes "n_data") (true_of _ ports_there.1.1.1.0) (λ s e. ap (λ (k : Kind). (is_input_port k && is_data_port s) || false) e)

@@ -10,7 +10,7 @@ use Rattle.verilog_tree.specs.Laws.{HasOneSettling}
 use Rattle.verilog_tree.specs.Shown.{inputs_of, ports_of}
 use Rattle.verilog_tree.specs.declared.fault.ModuleFault.TheVariants.{Redeclared, Undeclared, PortShape, WrongKind, WidthOver, BadSelect, ManyDrivers, NoDriver}
 use Rattle.verilog_tree.specs.Names.{text_of}
-use Rattle.verilog_tree.specs.Checks.{or_else, named, Passes, early_fault, redeclared, undeclared, wrong_port, wrong_kind, width_over, bad_select, many_drivers, no_driver}
+use Rattle.verilog_tree.specs.Checks.{Face, or_else, named, PassesAs, IsClosed, early_fault, redeclared, undeclared, wrong_port, wrong_kind, width_over, bad_select, many_drivers, no_driver}
 use Rattle.module_laws.specs.Running.{HasRuns}
 use Rattle.module_laws.proofs.DrivenOnce.{driven_once}
 
@@ -43,36 +43,36 @@ from_over d = or_else (option_map WidthOver (width_over d)) (from_select d)
 abbrev from_kind : Design → Option ModuleFault
 from_kind d = or_else (named d WrongKind (wrong_kind d)) (from_over d)
 
-abbrev from_port : Design → Option ModuleFault
-from_port d = or_else (option_map PortShape (wrong_port d)) (from_kind d)
+abbrev from_port : Face → Design → Option ModuleFault
+from_port face d = or_else (option_map PortShape (wrong_port face d)) (from_kind d)
 
-abbrev from_undeclared : Design → Option ModuleFault
-from_undeclared d = or_else (named d Undeclared (undeclared d)) (from_port d)
+abbrev from_undeclared : Face → Design → Option ModuleFault
+from_undeclared face d = or_else (named d Undeclared (undeclared d)) (from_port face d)
 
 -- none of the checks before that of loops fails
-pub record NoneFails (d : Design) : Type 0 where
+pub record NoneFails (face : Face) (d : Design) : Type 0 where
   pub redeclares : redeclared d ≡ None
   pub undeclares : undeclared d ≡ None
-  pub ports : wrong_port d ≡ None
+  pub ports : wrong_port face d ≡ None
   pub kinds : wrong_kind d ≡ None
   pub widths : width_over d ≡ None
   pub selects : bad_select d ≡ None
   pub drivers : many_drivers d ≡ None
   pub driven : no_driver d ≡ None
 
-pub none_fails : (d : Design) → early_fault d ≡ None → NoneFails d
-none_fails d early =
-    let undeclares = no_second (named d Redeclared (redeclared d)) (from_undeclared d) early in
-    let ports = no_second (named d Undeclared (undeclared d)) (from_port d) undeclares in
-    let kinds = no_second (option_map PortShape (wrong_port d)) (from_kind d) ports in
+pub none_fails : (face : Face) (d : Design) → early_fault face d ≡ None → NoneFails face d
+none_fails face d early =
+    let undeclares = no_second (named d Redeclared (redeclared d)) (from_undeclared face d) early in
+    let ports = no_second (named d Undeclared (undeclared d)) (from_port face d) undeclares in
+    let kinds = no_second (option_map PortShape (wrong_port face d)) (from_kind d) ports in
     let widths = no_second (named d WrongKind (wrong_kind d)) (from_over d) kinds in
     let selects = no_second (option_map WidthOver (width_over d)) (from_select d) widths in
     let drivers = no_second (named d BadSelect (bad_select d)) (from_many d) selects in
     let driven = no_second (named d ManyDrivers (many_drivers d)) (from_no_driver d) drivers in
     record {
-      redeclares = none_mapped (λ k. Redeclared (text_of d k)) (redeclared d) (no_first (named d Redeclared (redeclared d)) (from_undeclared d) early);
-      undeclares = none_mapped (λ k. Undeclared (text_of d k)) (undeclared d) (no_first (named d Undeclared (undeclared d)) (from_port d) undeclares);
-      ports = none_mapped PortShape (wrong_port d) (no_first (option_map PortShape (wrong_port d)) (from_kind d) ports);
+      redeclares = none_mapped (λ k. Redeclared (text_of d k)) (redeclared d) (no_first (named d Redeclared (redeclared d)) (from_undeclared face d) early);
+      undeclares = none_mapped (λ k. Undeclared (text_of d k)) (undeclared d) (no_first (named d Undeclared (undeclared d)) (from_port face d) undeclares);
+      ports = none_mapped PortShape (wrong_port face d) (no_first (option_map PortShape (wrong_port face d)) (from_kind d) ports);
       kinds = none_mapped (λ k. WrongKind (text_of d k)) (wrong_kind d) (no_first (named d WrongKind (wrong_kind d)) (from_over d) kinds);
       widths = none_mapped WidthOver (width_over d) (no_first (option_map WidthOver (width_over d)) (from_select d) widths);
       selects = none_mapped (λ k. BadSelect (text_of d k)) (bad_select d) (no_first (named d BadSelect (bad_select d)) (from_many d) selects);
@@ -80,11 +80,29 @@ none_fails d early =
       driven = none_mapped (λ k. NoDriver (text_of d k)) (no_driver d) driven;
     }
 
-pub early_none : (d : Design) → NoneFails d → early_fault d ≡ None
-early_none d n = rw (n.redeclares, n.undeclares, n.ports, n.kinds, n.widths, n.selects, n.drivers, n.driven) refl
+pub early_none : (face : Face) (d : Design) → NoneFails face d → early_fault face d ≡ None
+early_none face d n = rw (n.redeclares, n.undeclares, n.ports, n.kinds, n.widths, n.selects, n.drivers, n.driven) refl
 
-pub passing_driven : (d : Design) → Passes d → IsDrivenOnce d
-passing_driven d passes = driven_once d (none_fails d passes.early).drivers
+-- a module that passes with the ports of some face is closed
+pub closed : {face : Face} (d : Design) → PassesAs face d → IsClosed d
+closed {face} d passes =
+    let n = none_fails face d passes.early in
+    record {
+      redeclares = n.redeclares;
+      undeclares = n.undeclares;
+      kinds = n.kinds;
+      widths = n.widths;
+      selects = n.selects;
+      drivers = n.drivers;
+      driven = n.driven;
+      free = passes.free;
+    }
+
+pub closed_driven : (d : Design) → IsClosed d → IsDrivenOnce d
+closed_driven d is = driven_once d is.drivers
+
+pub passing_driven : {face : Face} (d : Design) → PassesAs face d → IsDrivenOnce d
+passing_driven d passes = closed_driven d (closed d passes)
 
 -- ---- runs
 

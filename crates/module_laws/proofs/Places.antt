@@ -11,7 +11,7 @@ use Rattle.verilog_tree.specs.Meaning.{Shapes}
 use Rattle.verilog_tree.specs.Names.{declaration_in, shapes_in, shapes_of, text_of}
 use Rattle.verilog_tree.specs.Cycle.{circuit_of}
 use Rattle.verilog_tree.specs.Shown.{ports_of}
-use Rattle.verilog_tree.specs.Checks.{or_else, Use, Assigned, Given, Read, Selected, used_name, is_of_kind, can_be_assigned, can_be_given, is_wrong_use, is_bad_select, is_port, is_right_port, has_port, port_names, is_over, Side, has_over, sides, action_sides, actions_sides, blocks_sides, assigns_sides, needs_driver, is_driven, Passes, DependsOnItself, uses, declarations, undeclared, wrong_kind, bad_select}
+use Rattle.verilog_tree.specs.Checks.{or_else, Use, Assigned, Given, Read, Selected, used_name, is_of_kind, can_be_assigned, can_be_given, is_wrong_use, is_bad_select, is_port, is_right_port, has_port, Face, face_names, is_over, Side, has_over, sides, action_sides, actions_sides, blocks_sides, assigns_sides, needs_driver, is_driven, PassesAs, DependsOnItself, uses, declarations, undeclared, wrong_kind, bad_select}
 use Rattle.verilog_text.specs.Order.{unplaced, IsSameButPlaces}
 use Rattle.module_laws.proofs.Passing.{no_first, no_second, none_mapped, NoneFails, none_fails, early_none}
 use Rattle.module_laws.proofs.TextOrder.{unplaced_finds, placed_finds, unplaced_repeats, placed_repeats}
@@ -52,7 +52,7 @@ unplaced_shapes signals =
 
 -- ---- the checks of a module without places
 
-module _ (d : Design) where
+module _ (face : Face) (d : Design) where
   abbrev U : Design
   U = unplaced_design d
 
@@ -108,10 +108,10 @@ module _ (d : Design) where
   same_has_port text = unplaced_any (λ (s : Signal). is_port s.kind && bytes_eq (text_of d s.name) text) (λ s. refl) d.signals
 
   abbrev missing_port : Design → Option (List ℕ)
-  missing_port e = find (λ text. not (has_port e text)) port_names
+  missing_port e = find (λ text. not (has_port e text)) (face_names face)
 
   same_missing : missing_port U ≡ missing_port d
-  same_missing = ap (λ (test : List ℕ → Bool). find (λ text. not (test text)) port_names) (fun_ext same_has_port)
+  same_missing = ap (λ (test : List ℕ → Bool). find (λ text. not (test text)) (face_names face)) (fun_ext same_has_port)
 
   abbrev over_side : Design → Option Side
   over_side e = find (λ (side : Side). has_over (shapes_of e) side.tree) (sides e)
@@ -122,7 +122,7 @@ module _ (d : Design) where
       ∙ ap (find (λ (side : Side). has_over (shapes_of d) side.tree)) same_sides
 
   abbrev wrong_declared : List Signal → Option Signal
-  wrong_declared ss = find (λ (s : Signal). is_port s.kind && not (is_right_port d s)) ss
+  wrong_declared ss = find (λ (s : Signal). is_port s.kind && not (is_right_port face d s)) ss
 
   abbrev over_declared : List Signal → Option Signal
   over_declared ss = find (λ (s : Signal). is_over s.width) ss
@@ -133,12 +133,12 @@ module _ (d : Design) where
   none_joined : {A B : Type 0} (f : A → B) (a : Option A) (b : Option B) → a ≡ None → b ≡ None → or_else (option_map f a) b ≡ None
   none_joined f a b is its = ap (λ (o : Option _). or_else (option_map f o) b) is ∙ its
 
-  pub to_unplaced : NoneFails d → NoneFails U
+  pub to_unplaced : NoneFails face d → NoneFails face U
   to_unplaced n = record {
     redeclares = unplaced_repeats d.signals n.redeclares;
     undeclares = same_undeclared ∙ n.undeclares;
     ports = none_joined (λ (s : Signal). text_of d s.name) (wrong_declared (declarations U)) (missing_port U)
-        (unplaced_finds (λ (s : Signal). is_port s.kind && not (is_right_port d s)) (λ s. refl) d.signals
+        (unplaced_finds (λ (s : Signal). is_port s.kind && not (is_right_port face d s)) (λ s. refl) d.signals
         (none_mapped (λ (s : Signal). text_of d s.name) (wrong_declared (declarations d)) (no_first _ (missing_port d) n.ports)))
         (same_missing ∙ no_second (option_map (λ (s : Signal). text_of d s.name) (wrong_declared (declarations d))) (missing_port d) n.ports);
     kinds = same_wrong_kind ∙ n.kinds;
@@ -153,12 +153,12 @@ module _ (d : Design) where
         (none_mapped (λ (s : Signal). s.name) (undriven (declarations d)) n.driven));
   }
 
-  pub from_unplaced : NoneFails U → NoneFails d
+  pub from_unplaced : NoneFails face U → NoneFails face d
   from_unplaced n = record {
     redeclares = placed_repeats d.signals n.redeclares;
     undeclares = sym same_undeclared ∙ n.undeclares;
     ports = none_joined (λ (s : Signal). text_of d s.name) (wrong_declared (declarations d)) (missing_port d)
-        (placed_finds (λ (s : Signal). is_port s.kind && not (is_right_port d s)) (λ s. refl) d.signals
+        (placed_finds (λ (s : Signal). is_port s.kind && not (is_right_port face d s)) (λ s. refl) d.signals
         (none_mapped (λ (s : Signal). text_of d s.name) (wrong_declared (declarations U)) (no_first _ (missing_port U) n.ports)))
         (sym same_missing ∙ no_second (option_map (λ (s : Signal). text_of d s.name) (wrong_declared (declarations U))) (missing_port U) n.ports);
     kinds = sym same_wrong_kind ∙ n.kinds;
@@ -182,9 +182,9 @@ module _ (d e : Design) (same : IsSameButPlaces d e) where
       by : d.name ≡ e.name → d.names ≡ e.names → map unplaced d.signals ≡ map unplaced e.signals → d.assigns ≡ e.assigns → d.blocks ≡ e.blocks → unplaced_design d ≡ unplaced_design e
       by a b c f g = rw (a, b, c, f, g) refl
 
-  pub same_passing : Passes e → Passes d
-  same_passing passes = record {
-    early = early_none d (from_unplaced d (subst NoneFails (sym same_unplaced) (to_unplaced e (none_fails e passes.early))));
+  pub same_passing : {face : Face} → PassesAs face e → PassesAs face d
+  same_passing {face} passes = record {
+    early = early_none face d (from_unplaced face d (subst (NoneFails face) (sym same_unplaced) (to_unplaced face e (none_fails face e passes.early))));
     free = subst (λ (u : Design). (n : ℕ) → DependsOnItself u n → ⊥) (sym same_unplaced) passes.free;
   }
 

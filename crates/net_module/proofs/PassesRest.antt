@@ -18,7 +18,7 @@ use Rattle.verilog_tree.specs.declared.tree.Signal.{Signal}
 use Rattle.verilog_tree.specs.Tree.{Design}
 use Rattle.verilog_tree.specs.Meaning.{Shapes}
 use Rattle.verilog_tree.specs.Names.{shapes_of, text_of}
-use Rattle.verilog_tree.specs.Checks.{or_else, first_repeat, has_port, port_names, declarations, redeclared, is_port, is_right_port, wrong_port, is_over, has_over, Side, sides, assigns_sides, blocks_sides, width_over}
+use Rattle.verilog_tree.specs.Checks.{or_else, first_repeat, has_port, port_names, declarations, redeclared, is_port, filter_face, is_right_port, wrong_port, is_over, has_over, Side, sides, assigns_sides, blocks_sides, width_over}
 use Rattle.net_module.specs.Written.{IsWritable, is_wire, is_register, has_kind, is_output_kind, input_place, output_place, unless, number_after, node_signal, node_signals, kind_for, tree_for, node_assigns, node_blocks, block_for}
 use Rattle.net_module.proofs.Cycles.{input_width, width_of, wide_of}
 use Rattle.net_module.proofs.Outputs.{valid_there, output_there}
@@ -154,16 +154,16 @@ module _ (cells : List Cell) (netlist : IsNetlist cells) (writable : IsWritable 
 
   -- ---- ports
 
-  nodes_no_ports : (cs : List Cell) (first : ℕ) → AllFail (λ (s : Signal). is_port s.kind && not (is_right_port F s)) (node_signals cs first)
+  nodes_no_ports : (cs : List Cell) (first : ℕ) → AllFail (λ (s : Signal). is_port s.kind && not (is_right_port filter_face F s)) (node_signals cs first)
   nodes_no_ports [] first = tt
   nodes_no_ports (x ∷ cs) first =
-      keep_fail (λ (s : Signal). is_port s.kind && not (is_right_port F s)) (is_input x.item) (node_signal x first) (node_signals cs (number_after (is_input x.item) first))
-      (ap (λ (b : Bool). b && not (is_right_port F (node_signal x first))) (no_port (is_register x.item))) (nodes_no_ports cs (number_after (is_input x.item) first))
+      keep_fail (λ (s : Signal). is_port s.kind && not (is_right_port filter_face F s)) (is_input x.item) (node_signal x first) (node_signals cs (number_after (is_input x.item) first))
+      (ap (λ (b : Bool). b && not (is_right_port filter_face F (node_signal x first))) (no_port (is_register x.item))) (nodes_no_ports cs (number_after (is_input x.item) first))
 
-  pub none_wrong_port : wrong_port F ≡ None
+  pub none_wrong_port : wrong_port filter_face F ≡ None
   none_wrong_port =
-      let test : Signal → Bool = λ (s : Signal). is_port s.kind && not (is_right_port F s) in
-      let right = find_none test F.signals (refl, (refl, (refl, (ap not (within w_in in_range.0 in_range.1), (refl, (ap not (within w_out out_range.0 out_range.1), nodes_no_ports cells 7)))))) in
+      let test : Signal → Bool = λ (s : Signal). is_port s.kind && not (is_right_port filter_face F s) in
+      let right = find_none test F.signals (refl, (refl, (refl, (ap (λ (b : Bool). not (b || false)) (within w_in in_range.0 in_range.1), (refl, (ap (λ (b : Bool). not (b || false)) (within w_out out_range.0 out_range.1), nodes_no_ports cells 7)))))) in
       let missing : Option (List ℕ) = find (λ text. not (has_port F text)) port_names in
       ap (λ (ss : List Signal). or_else (option_map (λ (s : Signal). text_of F s.name) (find test ss)) missing) ordered
       ∙ ap (λ (o : Option Signal). or_else (option_map (λ (s : Signal). text_of F s.name) o) missing) right

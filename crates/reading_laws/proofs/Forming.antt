@@ -6,7 +6,7 @@ use Rattle.verilog_tree.specs.declared.tree.Signal.{Signal}
 use Rattle.verilog_tree.specs.Tree.{Design}
 use Rattle.verilog_tree.specs.Names.{text_of}
 use Rattle.verilog_tree.specs.Renaming.{number_in, AreDistinct}
-use Rattle.verilog_tree.specs.Checks.{Passes, is_port, has_port}
+use Rattle.verilog_tree.specs.Checks.{Face, HasClock, PassesAs, is_port, has_port}
 use Rattle.verilog_text.specs.Lexer.{Placed}
 use Rattle.verilog_text.specs.Names.{names_behind}
 use Rattle.verilog_text.specs.Grammar.{limits}
@@ -14,7 +14,7 @@ use Rattle.verilog_text.specs.Text.{Text, Direction, Inward, Outward, direction_
 use Rattle.verilog_text.specs.Reading.{Reads, design_of, with_places, declared_places}
 use Rattle.verilog_text.specs.Shortest.{is_port as is_port_kind, ports_in, IsFormedSignal, AllFormed, IsWritable}
 use Rattle.verilog_text.proofs.Numbering.{number_of_name}
-use Rattle.module_laws.proofs.InputPorts.{some_among, both_true, true_of, read_name, ports_there}
+use Rattle.module_laws.proofs.InputPorts.{some_among, both_true, read_name, port_there}
 use Rattle.reading_laws.proofs.Pieces.{good_pieces}
 use Rattle.reading_laws.proofs.Known.{AreNames, names_found, known_tokens}
 use Rattle.reading_laws.proofs.Formed.{HasFormedText, formed_text}
@@ -37,9 +37,9 @@ some_port (p ∷ places) s signals is = rw is (omega arith)
 
 -- ---- the clock
 
-clock_there : (d : Design) → Passes d → AreDistinct d.names → number_in d.names clock_text < length d.names
-clock_there d passes distinct =
-    let there = true_of (has_port d (codes "clk")) (ports_there d passes distinct).0 in
+clock_there : (face : Face) (d : Design) → HasClock face → PassesAs face d → AreDistinct d.names → number_in d.names clock_text < length d.names
+clock_there face d clock passes distinct =
+    let there = port_there face d passes clock.place (codes "clk") clock.there in
     let found = some_among (λ (s : Signal). is_port s.kind && bytes_eq (text_of d s.name) (codes "clk")) d.signals there in
     let s = found.0 in
     let parts = both_true (is_port s.kind) (bytes_eq (text_of d s.name) (codes "clk")) found.2 in
@@ -49,9 +49,9 @@ clock_there d passes distinct =
 
 -- ---- the whole
 
-module _ (pieces : List Placed) (text : Text) where
+module _ (face : Face) (has_clock : HasClock face) (pieces : List Placed) (text : Text) where
   writable_text : AreNames (names_behind [] pieces) → HasFormedText (length (names_behind [] pieces)) limits (number_in (names_behind [] pieces) clock_text) text
-      → Passes (design_of (names_behind [] pieces) (declared_places false pieces) text) → IsWritable limits (design_of (names_behind [] pieces) (declared_places false pieces) text)
+      → PassesAs face (design_of (names_behind [] pieces) (declared_places false pieces) text) → IsWritable limits (design_of (names_behind [] pieces) (declared_places false pieces) text)
   writable_text are formed passes = record {
     distinct = are.distinct;
     names = are.named;
@@ -60,12 +60,12 @@ module _ (pieces : List Placed) (text : Text) where
     assigns = formed.items.assigns;
     blocks = formed.items.blocks;
     port = some_port (declared_places false pieces) _ _ (outer text.port.direction);
-    clock = clock_there (design_of (names_behind [] pieces) (declared_places false pieces) text) passes are.distinct;
+    clock = clock_there face (design_of (names_behind [] pieces) (declared_places false pieces) text) has_clock passes are.distinct;
   }
 
-pub writable : (bytes : List ℕ) (d : Design) → Reads bytes d → Passes d → IsWritable limits d
-writable bytes d reads passes =
+pub writable : {face : Face} → HasClock face → (bytes : List ℕ) (d : Design) → Reads bytes d → PassesAs face d → IsWritable limits d
+writable {face} has_clock bytes d reads passes =
     let good = good_pieces 0 bytes reads.pieces reads.scans in
     let are = names_found reads.pieces [] good (record { distinct = tt; named = tt }) in
     let formed = formed_text (length (names_behind [] reads.pieces)) limits (number_in (names_behind [] reads.pieces) clock_text) reads.text reads.in_limits (known_tokens reads.pieces (tokens_of (number_in (names_behind [] reads.pieces) clock_text) reads.text) good reads.tokens_are) in
-    subst (IsWritable limits) (sym reads.design_is) (writable_text reads.pieces reads.text are formed (subst Passes reads.design_is passes))
+    subst (IsWritable limits) (sym reads.design_is) (writable_text face has_clock reads.pieces reads.text are formed (subst (PassesAs face) reads.design_is passes))

@@ -11,7 +11,7 @@ use Rattle.verilog_tree.specs.Tree.{Assignment, Design}
 use Rattle.verilog_tree.specs.Meaning.{Values}
 use Rattle.verilog_tree.specs.Names.{declaration_in, shapes_of, kind_of, text_of, is_control}
 use Rattle.verilog_tree.specs.Cycle.{IsDrivenOnce, IsLoopFree}
-use Rattle.verilog_tree.specs.Checks.{is_input_port, Passes}
+use Rattle.verilog_tree.specs.Checks.{is_input_port, Passes, filter_face}
 use Rattle.verilog_tree.specs.Uncut.{Numbers, IsUncut, IsUncutRun, number_at, whole, whole_next}
 use Rattle.module_laws.proofs.Levels.{loop_free}
 use Rattle.module_laws.proofs.Passing.{none_fails, passing_driven}
@@ -229,4 +229,4 @@ module _ (d : Design) (driven : IsDrivenOnce d) (free : IsLoopFree d) (inputs : 
       (run.0, run.1, λ other its. one_run begins settled other run.0 its run.1)
 
 pub passing_uncut : (d : Design) → Passes d → HasOneUncutRun d
-passing_uncut d passes = one_uncut d (passing_driven d passes) (loop_free d passes.free) (assigns_no_input d (none_fails d passes.early).kinds)
+passing_uncut d passes = one_uncut d (passing_driven d passes) (loop_free d passes.free) (assigns_no_input d (none_fails filter_face d passes.early).kinds)

@@ -4,7 +4,7 @@ use Rattle.std.specs.Option.{option_map}
 use Rattle.verilog_tree.specs.declared.fault.ModuleFault.{ModuleFault}
 use Rattle.verilog_tree.specs.declared.fault.ModuleFault.TheVariants.{Undeclared, PortShape, WrongKind, WidthOver, BadSelect, ManyDrivers, NoDriver}
 use Rattle.verilog_tree.specs.Tree.{Design}
-use Rattle.verilog_tree.specs.Checks.{or_else, named, undeclared, wrong_port, wrong_kind, width_over, bad_select, many_drivers, no_driver}
+use Rattle.verilog_tree.specs.Checks.{or_else, named, undeclared, filter_face, wrong_port, wrong_kind, width_over, bad_select, many_drivers, no_driver}
 
 abbrev pub driver_fault : Design → Option ModuleFault
 driver_fault d = or_else (named d ManyDrivers (many_drivers d)) (named d NoDriver (no_driver d))
@@ -17,4 +17,4 @@ size_fault d = or_else (option_map WidthOver (width_over d)) (or_else (named d B
 abbrev pub name_fault : Design → Option ModuleFault
 name_fault d =
     or_else (named d Undeclared (undeclared d)) (
-    or_else (option_map PortShape (wrong_port d)) (or_else (named d WrongKind (wrong_kind d)) (size_fault d)))
+    or_else (option_map PortShape (wrong_port filter_face d)) (or_else (named d WrongKind (wrong_kind d)) (size_fault d)))

@@ -4,7 +4,7 @@ ghost use Rattle.std.specs.Prelude.{◌≡◌, IfOk, map};
 ghost use Rattle.std.specs.Option.{option_map};
 ghost use Rattle.verilog_tree.specs.Names.{text_of};
 ghost use Rattle.verilog_tree.specs.Checks as checks;
-ghost use Rattle.verilog_tree.specs.Checks.{declarations, wrong_port, width_over, early_fault};
+ghost use Rattle.verilog_tree.specs.Checks.{declarations, filter_face, wrong_port, width_over, early_fault};
 ghost use Rattle.verilog_tree.specs.View.{design_view};
 ghost use Rattle.verilog_check.specs.Early.{name_fault, size_fault, driver_fault};
 ghost use Rattle.verilog_check.specs.Telling.{Tells};
@@ -46,7 +46,7 @@ fn port_fault(
     ordered: &[Signal],
 ) -> Result<Option<ModuleFault>, Memory>
     requires { ordered.now ≡ declarations (design_view design.now) }
-    ensures { IfOk result (λ fault. fault ≡ option_map ModuleFault.PortShape (wrong_port (design_view design.now))) }
+    ensures { IfOk result (λ fault. fault ≡ option_map ModuleFault.PortShape (wrong_port filter_face (design_view design.now))) }
 {
     if let Some(name) = first_wrong_port(design, ordered) {
         let name = name_text(alloc, design, name)?;
@@ -162,7 +162,7 @@ pub(crate) fn early_check(
     ordered: &[Signal],
 ) -> Result<Option<ModuleFault>, Memory>
     requires { ordered.now ≡ declarations (design_view design.now) }
-    ensures { IfOk result (λ fault. fault ≡ early_fault (design_view design.now)) }
+    ensures { IfOk result (λ fault. fault ≡ early_fault filter_face (design_view design.now)) }
 {
     if let Some(name) = first_redeclared(alloc, ordered)? {
         let name = name_text(alloc, design, name)?;

@@ -5,7 +5,7 @@ ghost use Rattle.std.specs.List.{list_any};
 ghost use Rattle.std.specs.Option.{option_map, option_copied};
 ghost use Rattle.std.specs.HashSet.{contains};
 ghost use Rattle.verilog_tree.specs.Checks as checks;
-ghost use Rattle.verilog_tree.specs.Checks.{is_port, is_input_port, is_bit_port, is_data_port, is_right_input, is_right_output, is_right_port, has_port, port_names, needs_driver, is_over};
+ghost use Rattle.verilog_tree.specs.Checks.{is_port, is_input_port, is_bit_port, is_data_port, Port, filter_face, is_as, is_right_port, has_port, port_names, needs_driver, is_over};
 ghost use Rattle.verilog_tree.specs.declared.tree.Signal.{Signal};
 ghost use Rattle.verilog_tree.specs.View.{design_view};
 ghost use Rattle.verilog_check.specs.Drives.{drive_view};
@@ -49,35 +49,40 @@ fn is_data_port(signal: Signal) -> bool
     1 <= signal.width && signal.width <= 127
 }
 
-fn is_right_input(text: &str, signal: Signal) -> bool
-    ensures { result ≡ is_right_input text.now signal }
+// Whether a signal of this text is declared as a port of another text, as an input or an output, and as a bit or a number.
+fn is_as(port: &str, input: bool, bit: bool, text: &str, signal: Signal) -> bool
+    ensures { result ≡ is_as (record { text = port.now; input = input; bit = bit }) text.now signal }
 {
-    ((text == "clk" || (text == "rst" || text == "ce")) && is_bit_port(signal))
-        || (text == "in_data" && is_data_port(signal))
+    let directed = is_input_port(signal.kind) == input;
+    let sized = if bit {
+        is_bit_port(signal)
+    } else {
+        is_data_port(signal)
+    };
+    text == port && (directed && sized)
 }
 
-fn is_right_output(text: &str, signal: Signal) -> bool
-    ensures { result ≡ is_right_output text.now signal }
+// Whether a signal of this text is declared as one of the ports of a filter.
+fn is_filter_port(text: &str, signal: Signal) -> bool
+    ensures { result ≡ list_any (λ (p : Port). is_as p text.now signal) filter_face }
 {
-    (text == "out_valid" && is_bit_port(signal)) || (text == "out_data" && is_data_port(signal))
+    is_as("clk", true, true, text, signal)
+        || (is_as("rst", true, true, text, signal)
+            || (is_as("ce", true, true, text, signal)
+                || (is_as("in_data", true, false, text, signal)
+                    || (is_as("out_valid", false, true, text, signal)
+                        || is_as("out_data", false, false, text, signal)))))
 }
 
 fn is_wrong_port(design: &Module, signal: Signal) -> bool
-    ensures { result ≡ (is_port signal.kind && not (is_right_port (design_view design.now) signal)) }
+    ensures { result ≡ (is_port signal.kind && not (is_right_port filter_face (design_view design.now) signal)) }
 {
-    let text = text_of(design, signal.name);
-    if !is_port(signal.kind) {
-        false
-    } else if is_input_port(signal.kind) {
-        !is_right_input(text, signal)
-    } else {
-        !is_right_output(text, signal)
-    }
+    is_port(signal.kind) && !is_filter_port(text_of(design, signal.name), signal)
 }
 
 /// The name of the first port that is not one of a filter.
 pub(crate) fn first_wrong_port(design: &Module, ordered: &[Signal]) -> Option<usize>
-    ensures { result ≡ option_map (λ (s : Signal). s.name) (find (λ (s : Signal). is_port s.kind && not (is_right_port (design_view design.now) s)) ordered.now) }
+    ensures { result ≡ option_map (λ (s : Signal). s.name) (find (λ (s : Signal). is_port s.kind && not (is_right_port filter_face (design_view design.now) s)) ordered.now) }
 {
     for signal in ordered {
         if is_wrong_port(design, *signal) {

@@ -13,7 +13,7 @@ use Rattle.verilog_tree.specs.declared.tree.ShiftOp.TheVariants.{ArithRight}
 use Rattle.verilog_tree.specs.declared.fault.ModuleFault.TheVariants.{Redeclared, Undeclared, PortShape, WrongKind, WidthOver, BadSelect, ManyDrivers, NoDriver}
 use Rattle.verilog_tree.specs.Tree.{Tree, Name, Bit, Plain, Based, Binary, Shift, Not, Action, Block, When, Either, Give, no_action, action, Assignment, Design}
 use Rattle.verilog_tree.specs.Meaning.{Shapes, assigned}
-use Rattle.verilog_tree.specs.Checks.{early_fault}
+use Rattle.verilog_tree.specs.Checks.{early_fault, filter_face}
 
 abbrev signal : ℕ → Kind → Bool → ℕ → Signal
 signal name kind signed width = record { name = name; kind = kind; signed = signed; ranged = true; width = width; place = 0 }
@@ -39,39 +39,39 @@ worked width names signals assigns = record {
   blocks = clocked ∷ [];
 }
 
-passes : early_fault (worked 5 [] [] []) ≡ None
+passes : early_fault filter_face (worked 5 [] [] []) ≡ None
 passes = refl
 
 -- a second `reg v;`
-redeclared : early_fault (worked 5 [] (bit 8 Reg ∷ []) []) ≡ Some (Redeclared (codes "v"))
+redeclared : early_fault filter_face (worked 5 [] (bit 8 Reg ∷ []) []) ≡ Some (Redeclared (codes "v"))
 redeclared = refl
 
 -- `assign z = a;` without a declaration of z
-undeclared : early_fault (worked 5 (codes "z" ∷ []) [] (assign 10 (Name 7) ∷ [])) ≡ Some (Undeclared (codes "z"))
+undeclared : early_fault filter_face (worked 5 (codes "z" ∷ []) [] (assign 10 (Name 7) ∷ [])) ≡ Some (Undeclared (codes "z"))
 undeclared = refl
 
 -- `out_data` of 128 bits
-port_shape : early_fault (worked 128 [] [] []) ≡ Some (PortShape (codes "out_data"))
+port_shape : early_fault filter_face (worked 128 [] [] []) ≡ Some (PortShape (codes "out_data"))
 port_shape = refl
 
 -- `assign v = ce;`
-wrong_kind : early_fault (worked 5 [] [] (assign 8 (Name 3) ∷ [])) ≡ Some (WrongKind (codes "v"))
+wrong_kind : early_fault filter_face (worked 5 [] [] (assign 8 (Name 3) ∷ [])) ≡ Some (WrongKind (codes "v"))
 wrong_kind = refl
 
 -- `wire [128:0] z;`
-width_over : early_fault (worked 5 (codes "z" ∷ []) (signal 10 Wire false 129 ∷ []) []) ≡ Some (WidthOver (codes "z"))
+width_over : early_fault filter_face (worked 5 (codes "z" ∷ []) (signal 10 Wire false 129 ∷ []) []) ≡ Some (WidthOver (codes "z"))
 width_over = refl
 
 -- `wire z; assign z = a[4];`
-bad_select : early_fault (worked 5 (codes "z" ∷ []) (bit 10 Wire ∷ []) (assign 10 (Bit 7 4) ∷ [])) ≡ Some (BadSelect (codes "a"))
+bad_select : early_fault filter_face (worked 5 (codes "z" ∷ []) (bit 10 Wire ∷ []) (assign 10 (Bit 7 4) ∷ [])) ≡ Some (BadSelect (codes "a"))
 bad_select = refl
 
 -- a second `assign y = a;`
-many_drivers : early_fault (worked 5 [] [] (assign 9 (Name 7) ∷ [])) ≡ Some (ManyDrivers (codes "y"))
+many_drivers : early_fault filter_face (worked 5 [] [] (assign 9 (Name 7) ∷ [])) ≡ Some (ManyDrivers (codes "y"))
 many_drivers = refl
 
 -- `wire z;`
-no_driver : early_fault (worked 5 (codes "z" ∷ []) (bit 10 Wire ∷ []) []) ≡ Some (NoDriver (codes "z"))
+no_driver : early_fault filter_face (worked 5 (codes "z" ∷ []) (bit 10 Wire ∷ []) []) ≡ Some (NoDriver (codes "z"))
 no_driver = refl
 
 -- ---- values

@@ -109,7 +109,7 @@ is_declared d n = is_some (declaration_in d.signals n)
 abbrev pub undeclared : Design → Option ℕ
 undeclared d = option_map used_name (find (λ u. not (is_declared d (used_name u))) (uses d))
 
--- ---- the ports are not those of a filter
+-- ---- the ports are not those of a face
 
 abbrev pub is_port : Kind → Bool
 is_port Input = true
@@ -131,27 +131,49 @@ is_bit_port s = not s.ranged && (not s.signed && s.width == 1)
 abbrev pub is_data_port : Signal → Bool
 is_data_port s = nat_le 1 s.width && nat_le s.width 127
 
-abbrev pub is_right_input : List ℕ → Signal → Bool
-is_right_input text s =
-    ((bytes_eq text (codes "clk") || (bytes_eq text (codes "rst") || bytes_eq text (codes "ce"))) && is_bit_port s) || (bytes_eq text (codes "in_data") && is_data_port s)
+-- a port that a module is to have: its text, whether it is an input, and whether it is a bit or else carries a number
+pub record Port : Type 0 where
+  pub text : List ℕ
+  pub input : Bool
+  pub bit : Bool
 
-abbrev pub is_right_output : List ℕ → Signal → Bool
-is_right_output text s = (bytes_eq text (codes "out_valid") && is_bit_port s) || (bytes_eq text (codes "out_data") && is_data_port s)
+-- the ports that a module is to have
+abbrev pub Face : Type 0
+Face = List Port
 
-abbrev pub is_right_port : Design → Signal → Bool
-is_right_port d s = if is_input_port s.kind then is_right_input (text_of d s.name) s else is_right_output (text_of d s.name) s
+-- those of a filter
+abbrev pub filter_face : Face
+filter_face =
+    record { text = codes "clk"; input = true; bit = true } ∷ record { text = codes "rst"; input = true; bit = true } ∷ record { text = codes "ce"; input = true; bit = true }
+    ∷ record { text = codes "in_data"; input = true; bit = false } ∷ record { text = codes "out_valid"; input = false; bit = true } ∷ record { text = codes "out_data"; input = false; bit = false } ∷ []
+
+-- the signal is declared as this port
+abbrev pub is_as : Port → List ℕ → Signal → Bool
+is_as p text s = bytes_eq text p.text && ((if p.input then is_input_port s.kind else not (is_input_port s.kind)) && (if p.bit then is_bit_port s else is_data_port s))
+
+-- as one of the ports of a face
+abbrev pub is_right_port : Face → Design → Signal → Bool
+is_right_port face d s = list_any (λ (p : Port). is_as p (text_of d s.name) s) face
+
+abbrev pub face_names : Face → List (List ℕ)
+face_names face = map (λ (p : Port). p.text) face
+
+-- a face with the clock
+pub record HasClock (face : Face) : Type 0 where
+  pub place : ℕ
+  pub there : slice_get (face_names face) place ≡ Some (codes "clk")
 
 abbrev pub port_names : List (List ℕ)
-port_names = codes "clk" ∷ codes "rst" ∷ codes "ce" ∷ codes "in_data" ∷ codes "out_valid" ∷ codes "out_data" ∷ []
+port_names = face_names filter_face
 
 abbrev pub has_port : Design → List ℕ → Bool
 has_port d text = list_any (λ (s : Signal). is_port s.kind && bytes_eq (text_of d s.name) text) d.signals
 
 -- the text of the first port that is not right, else the first that is missing
-abbrev pub wrong_port : Design → Option (List ℕ)
-wrong_port d =
-    or_else (option_map (λ (s : Signal). text_of d s.name) (find (λ (s : Signal). is_port s.kind && not (is_right_port d s)) (declarations d)))
-    (find (λ text. not (has_port d text)) port_names)
+abbrev pub wrong_port : Face → Design → Option (List ℕ)
+wrong_port face d =
+    or_else (option_map (λ (s : Signal). text_of d s.name) (find (λ (s : Signal). is_port s.kind && not (is_right_port face d s)) (declarations d)))
+    (find (λ text. not (has_port d text)) (face_names face))
 
 -- ---- a name is used as what it is not
 
@@ -305,11 +327,11 @@ no_driver d = option_map (λ (s : Signal). s.name) (find (λ (s : Signal). needs
 abbrev pub named : Design → (List ℕ → ModuleFault) → Option ℕ → Option ModuleFault
 named d fault n = option_map (λ k. fault (text_of d k)) n
 
-abbrev pub early_fault : Design → Option ModuleFault
-early_fault d =
+abbrev pub early_fault : Face → Design → Option ModuleFault
+early_fault face d =
     or_else (named d Redeclared (redeclared d)) (
     or_else (named d Undeclared (undeclared d)) (
-    or_else (option_map PortShape (wrong_port d)) (
+    or_else (option_map PortShape (wrong_port face d)) (
     or_else (named d WrongKind (wrong_kind d)) (
     or_else (option_map WidthOver (width_over d)) (
     or_else (named d BadSelect (bad_select d)) (
@@ -337,8 +359,23 @@ pub record IsFirstLoop (d : Design) (n : ℕ) : Type 0 where
 
 -- ---- all checks
 
-pub record Passes (d : Design) : Type 0 where
-  pub early : early_fault d ≡ None
+-- a module with the ports of a face passes
+pub record PassesAs (face : Face) (d : Design) : Type 0 where
+  pub early : early_fault face d ≡ None
+  pub free : (n : ℕ) → DependsOnItself d n → ⊥
+
+abbrev pub Passes : Design → Type 0
+Passes d = PassesAs filter_face d
+
+-- all checks but that of the ports pass
+pub record IsClosed (d : Design) : Type 0 where
+  pub redeclares : redeclared d ≡ None
+  pub undeclares : undeclared d ≡ None
+  pub kinds : wrong_kind d ≡ None
+  pub widths : width_over d ≡ None
+  pub selects : bad_select d ≡ None
+  pub drivers : many_drivers d ≡ None
+  pub driven : no_driver d ≡ None
   pub free : (n : ℕ) → DependsOnItself d n → ⊥
 
 -- this is the first check that fails, with the signal that it names
@@ -354,6 +391,9 @@ IsLoopFault d (ManyDrivers name) = ⊥
 IsLoopFault d (NoDriver name) = ⊥
 IsLoopFault d Memory = ⊥
 
-pub data Fails (d : Design) (fault : ModuleFault) : Type 0 where
-  Early : early_fault d ≡ Some fault → Fails d fault
-  Loop : early_fault d ≡ None → IsLoopFault d fault → Fails d fault
+pub data FailsAs (face : Face) (d : Design) (fault : ModuleFault) : Type 0 where
+  Early : early_fault face d ≡ Some fault → FailsAs face d fault
+  Loop : early_fault face d ≡ None → IsLoopFault d fault → FailsAs face d fault
+
+abbrev pub Fails : Design → ModuleFault → Type 0
+Fails d fault = FailsAs filter_face d fault

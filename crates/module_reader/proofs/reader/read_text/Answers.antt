@@ -1,5 +1,5 @@
-use Rattle.std.proofs.Common.{◌∙◌, subst}
-use Rattle.verilog_tree.specs.Checks.{Passes}
+use Rattle.std.proofs.Common.{refl, ◌∙◌, subst}
+use Rattle.verilog_tree.specs.Checks.{Passes, filter_face}
 use Rattle.verilog_tree.specs.View.{design_view}
 use Rattle.verilog_text.proofs.OneReading.{one_design}
 use Rattle.reading_laws.proofs.Forming.{writable}
@@ -10,7 +10,7 @@ pub returns-in-Err-clause-only : goal.returns-in-Err-clause-only
 returns-in-Err-clause-only c = λ d reads passes. c.in-Err.ensures.only d reads
 
 pub returns-in-Ok-check-clause-formed : goal.returns-in-Ok-check-clause-formed
-returns-in-Ok-check-clause-formed c = writable c.args.bytes.now (design_view c.in-Ok.read) c.in-Ok.ensures.found c.in-Ok-check.ensures.passes
+returns-in-Ok-check-clause-formed c = writable {face = filter_face} (record { place = 0; there = refl }) c.args.bytes.now (design_view c.in-Ok.read) c.in-Ok.ensures.found c.in-Ok-check.ensures.passes
 
 pub returns-in-Err-check-clause-only : goal.returns-in-Err-check-clause-only
 returns-in-Err-check-clause-only c = λ d reads passes.
