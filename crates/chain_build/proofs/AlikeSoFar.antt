@@ -3,7 +3,7 @@ use Rattle.std.proofs.Common.{◌≡◌, ℕ, suc, ◌+◌, ◌<◌, ◌≤◌, 
 use Rattle.mr_values.specs.declared.plan.Element.{Element}
 use Rattle.mr_values.specs.declared.plan.Plan.{Plan}
 use Rattle.mr_values.specs.Sequence.{Sequence, cic_down, cic_up}
-use Rattle.mr_values.specs.Timing.{Group, Fir, DownCic, UpCic, Rounding, Stream as Timed, groups, input, after, after_all}
+use Rattle.mr_values.specs.Timing.{Group, Fir, DownCic, UpCic, Rounding, Clipping, Stream as Timed, groups, input, after, after_all}
 use Rattle.mr_values.specs.Value.{size, chain}
 use Rattle.net_graph.specs.declared.cell.Cell.{Cell}
 use Rattle.net_graph.specs.declared.cell.Stream.{Stream}
@@ -44,6 +44,7 @@ one_follows first second streams (Fir up filter down) number f has = tt
 one_follows first second streams (DownCic factor stages delay) number f has = f.each streams (cic_down factor stages delay) (cascade_registers stages delay) has
 one_follows first second streams (UpCic factor stages delay) number f has = f.each streams (cic_up factor stages delay) (cascade_registers stages delay) has
 one_follows first second streams (Rounding shift mode) number f has = tt
+one_follows first second streams (Clipping bits) number f has = tt
 
 pub cascades_follow : (first second : OfCascade) (width : ℕ) (whole : List Element) (number taken : ℕ) (rounded : Bool) (s : Timed) (gs : List Group) → ((k : ℕ) → number ≤ k → k < number + length gs → Follows k first second)
     → HoldsOfCascades first width whole number taken rounded s gs → HoldsOfCascades second width whole number taken rounded s gs
@@ -99,6 +100,7 @@ cascade_of streams (DownCic factor stages delay) facts number cells has alike =
 cascade_of streams (UpCic factor stages delay) facts number cells has alike =
     subst (λ (f : StageFacts). (has_one_width f.kind ≡ true → HasAlike streams (chain f.elements) cells number f.alike)) has alike refl
 cascade_of streams (Rounding shift mode) facts number cells has alike = tt
+cascade_of streams (Clipping bits) facts number cells has alike = tt
 
 module _ {plan : Plan} {old net mid new : NetView} {from last : Stream} {rest : List Element} {fact : GroupFacts} {left : List GroupFacts} {number : ℕ} {front : List Group} {g : Group} {others : List Element} {added : Added}
     (accepted : IsAccepted plan) (so : SoFar (size plan.width) (size plan.ticks) plan.elements old net from last rest (fact ∷ left) number front) (split : IsSplit rest g others) (rounded : Bool) (rounded_is : rounded ≡ has_rounding front)

@@ -2,7 +2,7 @@
 use Rattle.std.specs.Prelude.{ℕ, ◌+◌, Bool, true, false, if◌then◌else◌, List, [], ◌∷◌, take}
 use Rattle.mr_values.specs.declared.plan.Element.{Element}
 use Rattle.mr_values.specs.Sequence.{Sequence, cic_down, cic_up}
-use Rattle.mr_values.specs.Timing.{Group, Fir, DownCic, UpCic, Rounding, Stream, groups, input, after}
+use Rattle.mr_values.specs.Timing.{Group, Fir, DownCic, UpCic, Rounding, Clipping, Stream, groups, input, after}
 use Rattle.net_graph.specs.declared.cell.Cell.{Cell}
 use Rattle.plan_check.specs.Groups.{size_of}
 use Rattle.cic_chain.specs.Facts.{cascade_registers}
@@ -21,6 +21,7 @@ HoldsOfCascade has streams (Fir up filter down) number = Unit {0}
 HoldsOfCascade has streams (DownCic factor stages delay) number = has streams (cic_down factor stages delay) number (cascade_registers stages delay)
 HoldsOfCascade has streams (UpCic factor stages delay) number = has streams (cic_up factor stages delay) number (cascade_registers stages delay)
 HoldsOfCascade has streams (Rounding shift mode) number = Unit {0}
+HoldsOfCascade has streams (Clipping bits) number = Unit {0}
 
 -- of the groups that are left, numbered from here, after so many elements and on this stream, before which a group rounded or not
 abbrev pub HoldsOfCascades : OfCascade → ℕ → List Element → ℕ → ℕ → Bool → Stream → List Group → Type 0
