@@ -2,18 +2,18 @@
 use Rattle.std.specs.Prelude.{◌≡◌, ℕ, List, Option, Some, None, Result, Ok, Err}
 use Rattle.mr_values.specs.Files.{Files}
 use Rattle.mr_values.specs.Host.{HostState}
-use Rattle.filter_core.specs.declared.fault.Fault.{Fault}
-use Rattle.filter_core.specs.declared.fault.Fault.TheVariants.{Usage, NotBuilt}
+use Rattle.command_files.specs.declared.fault.Fault.{Fault}
+use Rattle.command_files.specs.declared.fault.Fault.TheVariants.{Usage, NotBuilt}
 use Rattle.filter_core.specs.CommandWords.{CommandWords, compile_words, run_words, sim_words, order_words, extreme_words, noble_words}
 use Rattle.mr_values.specs.declared.plan.Plan.{Plan}
-use Rattle.filter_core.specs.Ends.{IsNoFile}
-use Rattle.filter_core.specs.PlanFile.{IsAcceptedFile, IsOfPlan}
-use Rattle.filter_core.specs.Noble.{NobleEnds}
-use Rattle.filter_core.specs.Compile.{CompileEnds, IsBuiltFile}
-use Rattle.filter_core.specs.Extreme.{ExtremeEnds, IsExtremeReady}
-use Rattle.filter_core.specs.Order.{OrderEnds}
-use Rattle.filter_core.specs.Run.{RunEnds, IsReadForRun, IsRunReady}
-use Rattle.filter_core.specs.Sim.{SimEnds, IsTextOrStimulus, AreSimFiles}
+use Rattle.command_files.specs.Ends.{IsNoFile}
+use Rattle.command_files.specs.PlanFile.{IsAcceptedFile, IsOfPlan}
+use Rattle.plan_commands.specs.Noble.{NobleEnds}
+use Rattle.plan_commands.specs.Compile.{CompileEnds, IsBuiltFile}
+use Rattle.plan_commands.specs.Extreme.{ExtremeEnds, IsExtremeReady}
+use Rattle.text_commands.specs.Order.{OrderEnds}
+use Rattle.plan_commands.specs.Run.{RunEnds, IsReadForRun, IsRunReady}
+use Rattle.text_commands.specs.Sim.{SimEnds, IsTextOrStimulus, AreSimFiles}
 
 -- a file that a command reads: PLAN, or a tap file that it names, and for `run` SAMPLES too; for `sim` and `order` TEXT or STIMULUS
 abbrev pub IsReadFor : CommandWords → Files → List ℕ → Type 0

@@ -2,22 +2,17 @@
 ghost use Rattle.std.specs.Prelude.{◌≡◌, ℕ, List, ◌↔◌, ◌≢◌, Err, IsOkUnless, map, IsTrue, string_bytes, Some, None};
 ghost use Rattle.mr_values.specs.Faults.{IsRisen};
 ghost use Rattle.filter_core.specs.CommandWords.{CommandWords, AreApart, compile_words, words_of, command_of};
-ghost use Rattle.filter_core.specs.Compile.{IsCompiled};
-ghost use Rattle.filter_core.specs.Ends.{EndsWith, call_of};
-ghost use Rattle.filter_core.specs.Statuses.{status_of};
+ghost use Rattle.plan_commands.specs.Compile.{IsCompiled};
+ghost use Rattle.command_files.specs.Ends.{EndsWith, call_of};
+ghost use Rattle.command_files.specs.Statuses.{status_of};
 ghost use Rattle.filter_core.specs.Tool.{CommandEnds, ToolEnds, IsUnbuilt, IsUnbuiltBy, IsReady, IsReadFor, IsReadBy, result_of};
 
-use crate::Fault;
-use crate::compile_command::compile;
-use crate::extreme_command::extreme;
-use crate::noble_command::noble;
-use crate::order_command::order;
-use crate::run_command::run_plan;
-use crate::sim_command::sim;
-use crate::status::status_of;
 use crate::words::{Command, read_words};
+use command_files::{Fault, status_of};
 use mr_values::Host;
+use plan_commands::{compile, extreme, noble, run_plan};
 use std::alloc::Global;
+use text_commands::{order, sim};
 
 /// What the program answers.
 #[derive(Debug, Drop)]

@@ -1,11 +1,11 @@
 use Rattle.std.proofs.Common.{subst}
 use Rattle.filter_core.specs.CommandWords.{words_of}
 use Rattle.filter_core.specs.Tool.{IsReady}
-use Rattle.filter_core.proofs.Completeness.{compile-complete, noble-complete}
-use Rattle.filter_core.proofs.ExtremeSteps.{extreme-complete}
-use Rattle.filter_core.proofs.RunSteps.{run-complete}
-use Rattle.filter_core.proofs.SimSteps.{sim-complete}
-use Rattle.filter_core.proofs.OrderSteps.{order-complete}
+use Rattle.plan_commands.proofs.Completeness.{compile-complete, noble-complete}
+use Rattle.plan_commands.proofs.ExtremeSteps.{extreme-complete}
+use Rattle.plan_commands.proofs.RunSteps.{run-complete}
+use Rattle.text_commands.proofs.SimSteps.{sim-complete}
+use Rattle.text_commands.proofs.OrderSteps.{order-complete}
 use Rattle.filter_core.proofs.tool.run.Goals as goal
 
 pub returns-in-Compile-clause-complete : goal.returns-in-Compile-clause-complete

@@ -1,0 +1,47 @@
+-- How a command ends: which host call, if any, is to blame, and what the counts of faults say of it.
+use Rattle.std.specs.Prelude.{◌≡◌, ◌⊎◌, ℕ, List, IsTrue, Option, Some, None, Result, Ok, Err}
+use Rattle.std.specs.FinMap.{get}
+use Rattle.mr_values.specs.declared.host.HostCall.{HostCall}
+use Rattle.mr_values.specs.declared.host.HostCall.TheVariants.{OpenInput}
+use Rattle.mr_values.specs.Faults.{IsRisen, count_of}
+use Rattle.mr_values.specs.Files.{Files}
+use Rattle.mr_values.specs.Host.{HostState}
+use Rattle.command_files.specs.declared.fault.Fault.{Fault}
+use Rattle.command_files.specs.declared.fault.Fault.TheVariants.{HostFault}
+
+-- the host call that a fault blames
+abbrev pub blamed_call : Fault → Option HostCall
+blamed_call (HostFault call) = Some call
+blamed_call _ = None
+
+abbrev pub call_of : {A : Type 0} → Result A Fault → Option HostCall
+call_of (Ok value) = None
+call_of (Err fault) = blamed_call fault
+
+-- A blamed call's count has risen. Where none is blamed, all counts are as before.
+abbrev pub IsBlamed : Option HostCall → HostState → HostState → Type 0
+IsBlamed None old new = new.faults ≡ old.faults
+IsBlamed (Some call) old new = IsRisen (count_of call old.faults) (count_of call new.faults)
+
+-- ---- which files are to be read, by the files and a name
+
+abbrev pub IsNoFile : Files → List ℕ → Type 0
+IsNoFile files name = ⊥
+
+abbrev pub IsThisFile : List ℕ → Files → List ℕ → Type 0
+IsThisFile file files name = name ≡ file
+
+-- a file that is to be read isn't there
+abbrev pub IsMissing : (Files → List ℕ → Type 0) → Files → Type 0
+IsMissing IsRead files = (name : List ℕ) × IsRead files name × (get files name ≡ None)
+
+-- Over told files, a call is blamed only where the host was struck, or where a file to be read isn't there.
+abbrev pub IsStruckFor : (Files → List ℕ → Type 0) → Option HostCall → HostState → HostState → Type 0
+IsStruckFor IsRead None old new = new.struck ≡ old.struck
+IsStruckFor IsRead (Some call) old new = IsRisen old.struck new.struck ⊎ ((call ≡ OpenInput) × IsMissing IsRead old.files)
+
+-- how a command that reads these files, or a part of one, ends
+pub record EndsWith (IsRead : Files → List ℕ → Type 0) (call : Option HostCall) (old new : HostState) : Type 0 where
+  pub same_kind : new.tells ≡ old.tells
+  pub blamed : IsBlamed call old new
+  pub struck : IsTrue old.tells → IsStruckFor IsRead call old new

@@ -1,5 +1,0 @@
-use Rattle.filter_core.proofs.ReadSteps.{TapsSoFar}
-use Rattle.filter_core.proofs.accept.read_tap_files.Given as goal
-
-abbrev pub invariant-loop-index : goal.invariant-loop-index
-invariant-loop-index g l = TapsSoFar l.fn.text l.index l.text (g.H.Host.state l.fn.host) (g.H.Host.state l.host)

@@ -1,9 +1,0 @@
-use Rattle.std.proofs.Common.{Err, sym, subst}
-use Rattle.filter_core.specs.declared.fault.Fault.{Fault}
-use Rattle.filter_core.specs.SimText.{BytesAnswer}
-use Rattle.filter_core.proofs.SimSteps.{text_refused}
-use Rattle.filter_core.proofs.sim_command.design_of.Goals as goal
-
-pub returns-in-Err-clause-answer : goal.returns-in-Err-clause-answer
-returns-in-Err-clause-answer c =
-    subst (λ (fault : Fault). BytesAnswer c.args.bytes.now (Err fault)) (sym c.fault_of_text.ensures) (text_refused c.args.bytes.now c.in-Err.why c.in-Err.ensures.refused c.in-Err.ensures.only)

@@ -1,0 +1,4 @@
+pub mod Compile
+pub mod Extreme
+pub mod Noble
+pub mod Run
