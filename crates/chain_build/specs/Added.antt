@@ -36,6 +36,11 @@ HasFacts (UpCic factor stages delay) facts = facts ≡ cic_up_facts factor stage
 HasFacts (Rounding shift mode) facts = facts ≡ rounding_facts shift mode
 HasFacts (Clipping bits) facts = ⊥
 
+abbrev pub IsCascade : Group → Type 0
+IsCascade (DownCic factor stages delay) = Unit {0}
+IsCascade (UpCic factor stages delay) = Unit {0}
+IsCascade _ = ⊥
+
 -- the periods at which a group takes a stream
 pub record IsTaking (g : Group) (period : ℕ) : Type 0 where
   pub positive : 1 ≤ period

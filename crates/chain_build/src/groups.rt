@@ -24,7 +24,7 @@ ghost use Rattle.chain_build.specs.GroupCosts.{AreUngrouped, AreApart, HasCosts}
 ghost use Rattle.chain_build.specs.Groups.{IsGroupedTo};
 ghost use Rattle.chain_build.specs.Shapes.{HaveLinearItems};
 
-use crate::cascades::{down_group, up_group};
+use crate::cascades::cascade_group;
 use crate::extremes::{LinearPeak, is_linear, keep_peaks};
 use crate::prefix::prefix_ranges;
 use mr_values::{Memory, Plan};
@@ -135,16 +135,9 @@ fn add_group<R: Ranges>(
             let added = emit_stage(alloc, net, from, &stage, ranges)?;
             Ok(added)
         }
-        PlanGroup::CicDown {
-            factor,
-            stages,
-            delay,
-        } => down_group(alloc, net, from, group, *factor, *stages, *delay, ranges),
-        PlanGroup::CicUp {
-            factor,
-            stages,
-            delay,
-        } => up_group(alloc, net, from, group, *factor, *stages, *delay, ranges),
+        PlanGroup::CicDown { .. } | PlanGroup::CicUp { .. } => {
+            cascade_group(alloc, net, from, group, ranges)
+        }
     }
 }
 

@@ -32,7 +32,7 @@ AddsDecimator-both {old} {mid} {new} {last} {to} from width factor stages delay 
         let tick : t ≡ from.offset + k * from.period + 1 = omega arith in
         let taken : HasTaken from.period from.offset (suc k) t = rw tick (omega arith, omega arith) in
         let index : pos (suc k) -ℤ pos stages ≡ pos m *ℤ pos factor = omega (arith, ints) in
-        i.sums cut law inputs values run t (suc k) taken ∙ ap (integrators (cut false width) stages (sampled values from)) index
+        i.holds.sums cut law inputs values run t (suc k) taken ∙ ap (integrators (cut false width) stages (sampled values from)) index
     every cut law inputs values run (negsuc m) =
         let index : negsuc m *ℤ pos factor ≡ negsuc (suc m * factor - 1) = omega (arith, ints) in
         sym (ap (integrators (cut false width) stages (sampled values from)) index ∙ integrators-causal (cut false width) (cut_zero cut law width wide) stages (sampled values from) (sampled-causal values from) (suc m * factor - 1))

@@ -197,7 +197,7 @@ AddsInterpolator-all {old} {n1} {n2} {new} {slow} {fast} {last} from width facto
         let tick : t ≡ fast.offset + k * fast.period + 1 = omega arith in
         let taken : HasTaken fast.period fast.offset (suc k) t = rw tick (omega arith, omega (arith, fast_some)) in
         let index : pos (suc k) -ℤ pos stages ≡ pos m = omega (arith, ints) in
-        i.sums cut law inputs values run t (suc k) taken
+        i.holds.sums cut law inputs values run t (suc k) taken
         ∙ ap (integrators (cut false width) stages (sampled values fast)) index
         ∙ ap (λ (y : Sequence). integrators (cut false width) stages y (pos m)) (stuffed cut law inputs values (i.piece.grows.extends.runs cut law inputs values run))
     at cut law inputs values run (negsuc m) =

@@ -1,8 +1,11 @@
 -- Integrators in a row, and combs in a row.
-use Rattle.std.proofs.Common.{◌≡◌, ℕ, suc, ◌+◌, ◌*◌, ◌<◌, ◌≤◌, length, refl, sym, ◌∙◌, ap, arith, Option, subst, ℤ, pos, negsuc, ◌-ℤ◌, Bool, true, false}
+use Rattle.std.proofs.Common.{◌≡◌, ℕ, suc, ◌+◌, ◌-◌, ◌*◌, ◌<◌, ◌≤◌, ◌≢◌, ◌⊎◌, inl, inr, List, length, set, refl, sym, ◌∙◌, ap, arith, Option, subst, ℤ, pos, negsuc, ◌-ℤ◌, Bool, true, false}
 use Rattle.std.proofs.Math.Path.{fun_ext}
+use Rattle.std.proofs.lemmas.Bool.{cases_lt}
 use Rattle.std.proofs.lemmas.Int.{ints}
+use Rattle.std.proofs.lemmas.List.{get_or-set_same, get_or-set_other}
 use Rattle.mr_values.specs.Sequence.{Sequence}
+use Rattle.net_graph.specs.declared.cell.Cell.{Cell}
 use Rattle.net_graph.specs.declared.cell.Node.{Node}
 use Rattle.net_graph.specs.declared.cell.Stream.{Stream}
 use Rattle.net_graph.specs.declared.cell.Item.TheVariants.{Sub}
@@ -10,7 +13,7 @@ use Rattle.net_graph.specs.declared.name.NameKind.TheVariants.{Register}
 use Rattle.net_graph.specs.Cells.{NetView}
 use Rattle.net_graph.specs.Cut.{Cut, IsCut}
 use Rattle.net_graph.specs.Depth.{IsPlain, IsShallow}
-use Rattle.net_graph.specs.Grow.{Adds, Grows}
+use Rattle.net_graph.specs.Grow.{Adds, Extends, Grows}
 use Rattle.net_graph.specs.Run.{Values, IsRun}
 use Rattle.net_graph.proofs.CountLemmas.{adders_more}
 use Rattle.net_graph.proofs.DepthLemmas.{IsPlain-later, IsShallow-adds}
@@ -24,7 +27,7 @@ use Rattle.pipeline_balance.proofs.NumberedLemmas.{free_adds, IsCounted-leaves}
 use Rattle.pipeline_balance.proofs.ShapeLemmas.{KeepsShapes-trans, KeepsShapes-adds}
 use Rattle.pipeline_balance.proofs.TakenLemmas.{IsGate-later}
 use Rattle.cic_chain.specs.Cascade.{integrator, earlier, comb, integrators, combs}
-use Rattle.cic_chain.specs.Pieces.{IsPiece, AddsHeld, AddsIntegrator, AddsIntegrators, AddsComb, AddsCombs, sampled, at_ticks}
+use Rattle.cic_chain.specs.Pieces.{IsPiece, AddsHeld, AddsIntegrator, AddsIntegrators, HoldsSums, node_at, AddsRow, AddsComb, AddsCombs, sampled, at_ticks}
 use Rattle.stage_law.proofs.AlikeLemmas.{HasRegister-later}
 use Rattle.cic_chain.proofs.PieceLemmas.{IsPiece-none, IsPiece-gate, IsPiece-then, IsPiece-counts}
 use Rattle.cic_chain.proofs.SampleLemmas.{cut_zero, integrator-shift, integrators-causal, comb-causal, sampled-causal, steps_kept, held_before, summed_before}
@@ -73,7 +76,48 @@ IsRow-more {old} {mid} {new} {gate} {last} {to} {count} from width positive wide
 pub AddsIntegrators-row : {old new : NetView} {gate : Option Node} {last : Node} (from : Stream) (width stages : ℕ) → 1 ≤ stages → IsRow old new from gate width stages last → AddsIntegrators old new from width stages last
 AddsIntegrators-row from width stages some p = record {
   piece = p.piece;
-  sums = λ cut law inputs values run t n h. p.kept some cut law inputs values run t n h ∙ p.sums cut law inputs values run (pos n);
+  holds = record { sums = λ cut law inputs values run t n h. p.kept some cut law inputs values run t n h ∙ p.sums cut law inputs values run (pos n) };
+}
+
+-- ---- the registers of a row
+
+-- the first registers of a row hold their sums, and the last of them is this node
+pub record IsFilled (cells : List Cell) (from : Stream) (width count : ℕ) (last : Node) (registers : List Node) : Type 0 where
+  pub each : (stage : ℕ) → stage < count → HoldsSums cells from width (suc stage) (node_at registers stage)
+  pub end : 1 ≤ count → node_at registers (count - 1) ≡ last
+
+pub IsFilled-none : (cells : List Cell) (from : Stream) (width : ℕ) (last : Node) (registers : List Node) → IsFilled cells from width 0 last registers
+IsFilled-none cells from width last registers = record { each = λ stage less. absurd (omega arith); end = λ some. absurd (omega arith) }
+
+HoldsSums-later : {old new : List Cell} {from : Stream} {width count : ℕ} {node : Node} → Extends old new → HoldsSums old from width count node → HoldsSums new from width count node
+HoldsSums-later e h = record { sums = λ cut law inputs values run t taken is. h.sums cut law inputs values (e.runs cut law inputs values run) t taken is }
+
+pub IsFilled-more : {cells : List Cell} {old new : NetView} {gate : Option Node} {from : Stream} {width count : ℕ} {last to : Node} {registers : List Node} → count < length registers → Extends cells new.cells
+    → IsFilled cells from width count last registers → IsRow old new from gate width (count + 1) to → IsFilled new.cells from width (count + 1) to (set registers count to)
+IsFilled-more {cells} {old} {new} {gate} {from} {width} {count} {last} {to} {registers} room e h row = record { each = λ stage less. at stage less (cases_lt stage count); end = λ some. back }
+  where
+    here : node_at (set registers count to) count ≡ to
+    here = get_or-set_same registers count to (record { place = 0 }) room
+
+    back : node_at (set registers count to) (count + 1 - 1) ≡ to
+    back = let same : count + 1 - 1 ≡ count = omega arith in ap (λ (k : ℕ). node_at (set registers count to) k) same ∙ here
+
+    at : (stage : ℕ) → stage < count + 1 → (stage < count) ⊎ (count ≤ stage) → HoldsSums new.cells from width (suc stage) (node_at (set registers count to) stage)
+    at stage less (inl early) =
+        let other : stage ≢ count = λ same. absurd (omega (arith, same, early)) in
+        subst (HoldsSums new.cells from width (suc stage)) (sym (get_or-set_other registers count stage to (record { place = 0 }) other)) (HoldsSums-later e (h.each stage early))
+    at stage less (inr last_one) =
+        let same : count ≡ stage = omega arith in
+        let next : count + 1 ≡ suc stage = omega arith in
+        let holds : HoldsSums new.cells from width (count + 1) to = (AddsIntegrators-row from width (count + 1) (omega arith) row).holds in
+        subst (λ (k : ℕ). HoldsSums new.cells from width (suc stage) (node_at (set registers count to) k)) same
+        (subst (HoldsSums new.cells from width (suc stage)) (sym here) (subst (λ (k : ℕ). HoldsSums new.cells from width k to) next holds))
+
+pub AddsRow-filled : {old new : NetView} {gate : Option Node} {last : Node} {registers : List Node} (from : Stream) (width stages : ℕ) → 1 ≤ stages → IsRow old new from gate width stages last
+    → IsFilled new.cells from width stages last registers → AddsRow old new from width stages registers
+AddsRow-filled {old} {new} from width stages some row h = record {
+  last = subst (AddsIntegrators old new from width stages) (sym (h.end some)) (AddsIntegrators-row from width stages some row);
+  each = h.each;
 }
 
 -- ---- one comb

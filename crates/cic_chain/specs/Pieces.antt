@@ -1,5 +1,5 @@
 -- The pieces of a cascade in a net.
-use Rattle.std.specs.Prelude.{◌≡◌, ℕ, ◌+◌, ◌-◌, ◌*◌, ◌<◌, false, ℤ, pos, negsuc, ◌+ℤ◌, ◌-ℤ◌, List, length, Option, Some, None}
+use Rattle.std.specs.Prelude.{◌≡◌, ℕ, ◌+◌, ◌-◌, ◌*◌, ◌<◌, false, ℤ, pos, negsuc, ◌+ℤ◌, ◌-ℤ◌, List, length, get_or, suc, Option, Some, None}
 use Rattle.mr_values.specs.Sequence.{Sequence, up}
 use Rattle.net_graph.specs.declared.cell.Cell.{Cell}
 use Rattle.net_graph.specs.declared.cell.Node.{Node}
@@ -66,11 +66,24 @@ sampled values stream (negsuc m) = pos 0
 abbrev pub at_ticks : Stream → Node → Stream
 at_ticks from node = record { node = node; period = from.period; offset = from.offset }
 
--- at each tick before which so many values were taken, the node has what so many integrators make of the values
+-- at each tick before which so many values were taken, the node has what so many integrators make of the values, in every run, cut or uncut
+pub record HoldsSums (cells : List Cell) (from : Stream) (width count : ℕ) (node : Node) : Type 0 where
+  pub sums : (cut : Cut) → IsCut cut → (inputs : ℕ → ℤ) (values : Values) → IsRun cut cells inputs values
+      → (t taken : ℕ) → HasTaken from.period from.offset taken t → values t node.place ≡ integrators (cut false width) count (sampled values from) (pos taken -ℤ pos count)
+
+-- the new net leads to such a node by so many integrators
 pub record AddsIntegrators (old new : NetView) (from : Stream) (width stages : ℕ) (to : Node) : Type 0 where
   pub piece : IsPiece old new from.node to width stages stages
-  pub sums : (cut : Cut) → IsCut cut → (inputs : ℕ → ℤ) (values : Values) → IsRun cut new.cells inputs values
-      → (t taken : ℕ) → HasTaken from.period from.offset taken t → values t to.place ≡ integrators (cut false width) stages (sampled values from) (pos taken -ℤ pos stages)
+  pub holds : HoldsSums new.cells from width stages to
+
+-- a node of a list by its place, the node at place 0 behind the last
+abbrev pub node_at : List Node → ℕ → Node
+node_at nodes at = get_or nodes at (record { place = 0 })
+
+-- the new net has these integrators in a row, each of which holds what it and those before it make of the values
+pub record AddsRow (old new : NetView) (from : Stream) (width stages : ℕ) (registers : List Node) : Type 0 where
+  pub last : AddsIntegrators old new from width stages (node_at registers (stages - 1))
+  pub each : (stage : ℕ) → stage < stages → HoldsSums new.cells from width (suc stage) (node_at registers stage)
 
 -- the new net has a stream of the comb of the values, one tick later
 pub record AddsComb (old new : NetView) (from : Stream) (width delay : ℕ) (to : Stream) : Type 0 where

@@ -3,7 +3,7 @@
 ghost use Rattle.std.specs.Prelude.{◌≡◌, ◌<◌, ◌≤◌, ◌^◌, length, IfOk};
 ghost use Rattle.net_graph.specs.Grow.{Extends};
 ghost use Rattle.net_graph.specs.WellFormed.{IsWidth};
-ghost use Rattle.cic_chain.specs.Pieces.{AddsIntegrators, AddsComb, AddsCombs};
+ghost use Rattle.cic_chain.specs.Pieces.{AddsRow, AddsComb, AddsCombs};
 
 use crate::registers::{held, integrator};
 use mr_values::Memory;
@@ -11,34 +11,35 @@ use net_graph::{Net, Node, Stream};
 use pipeline_balance::gate_of;
 use std::alloc::Global;
 
-/// So many integrators in a row, which add at the stream's ticks. After want of memory there may be more nodes.
-pub(crate) fn integrators(
+/// The registers of N integrators in a row, which add at the stream's ticks. After want of memory there may be more nodes.
+pub(crate) fn integrators<const N: usize>(
     alloc: Global,
     net: &mut Net,
     from: Stream,
-    stages: usize,
     width: u8,
-) -> Result<Node, Memory>
+) -> Result<[Node; N], Memory>
     requires within { from.node.place < length net.old.cells }
     requires data_group { 1 ≤ net.old.group }
     requires positive { 1 ≤ from.period }
-    requires some { 1 ≤ stages }
+    requires some { 1 ≤ N }
     requires wide { IsWidth width }
-    ensures ok { IfOk result (AddsIntegrators net.old net.new from width stages) }
+    ensures ok { IfOk result (AddsRow net.old net.new from width N) }
     ensures extends { Extends net.old.cells net.new.cells }
     ensures group { net.new.group ≡ net.old.group }
 {
     let gate = gate_of(alloc, net, from)?;
+    let mut registers = [from.node; N];
     let mut last = from.node;
-    for _stage in 0..stages {
+    for stage in 0..N {
         let before = Stream {
             node: last,
             period: from.period,
             offset: from.offset,
         };
         last = integrator(net, before, gate, width)?;
+        registers[stage] = last;
     }
-    Ok(last)
+    Ok(registers)
 }
 
 // The difference of a stream and of its value so many values before, a tick later.

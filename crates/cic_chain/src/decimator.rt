@@ -10,15 +10,13 @@ use mr_values::Memory;
 use net_graph::{Net, Stream};
 use std::alloc::Global;
 
-/// So many integrators at the stream's ticks, every `factor`-th of the last one's values, and as many combs of these, all registers of one
-/// width. After want of memory there may be more nodes.
-pub(crate) fn decimate(
+/// N integrators at the stream's ticks, every `factor`-th of the last one's values, and N combs of these over D values each, all registers
+/// of one width. After want of memory there may be more nodes.
+pub(crate) fn decimate<const N: usize, const D: usize>(
     alloc: Global,
     net: &mut Net,
     from: Stream,
     factor: u32,
-    stages: usize,
-    delay: usize,
     width: u8,
 ) -> Result<Stream, Memory>
     requires within { from.node.place < length net.old.cells }
@@ -28,19 +26,19 @@ pub(crate) fn decimate(
     requires early { from.offset < 2 ^ 31 }
     requires factor_low { 1 ≤ factor }
     requires factor_high { factor ≤ 4096 }
-    requires some { 1 ≤ stages }
-    requires few { stages ≤ 8 }
+    requires some { 1 ≤ N }
+    requires few { N ≤ 8 }
     requires wide { IsWidth width }
-    ensures ok { IfOk result (AddsDecimator net.old net.new from width factor stages delay) }
+    ensures ok { IfOk result (AddsDecimator net.old net.new from width factor N D) }
     ensures extends { Extends net.old.cells net.new.cells }
     ensures group { net.new.group ≡ net.old.group }
 {
-    let last = integrators(alloc, net, from, stages, width)?;
+    let sums = integrators::<N>(alloc, net, from, width)?;
     let kept = Stream {
-        node: last,
+        node: sums[N - 1],
         period: from.period * u64::from(factor),
-        offset: from.offset + (stages as u64 - 1) * from.period + 1,
+        offset: from.offset + (N as u64 - 1) * from.period + 1,
     };
-    let to = combs(alloc, net, kept, stages, delay, width)?;
+    let to = combs(alloc, net, kept, N, D, width)?;
     Ok(to)
 }

@@ -39,15 +39,13 @@ fn zero_stuffed(
     })
 }
 
-/// So many combs at the stream's ticks, `factor` - 1 zeros after each value of the last one, and as many integrators over these, all
+/// N combs over D values each at the stream's ticks, `factor` - 1 zeros after each value of the last one, and N integrators over these, all
 /// registers of one width. After want of memory there may be more nodes.
-pub(crate) fn interpolate(
+pub(crate) fn interpolate<const N: usize, const D: usize>(
     alloc: Global,
     net: &mut Net,
     from: Stream,
     factor: u32,
-    stages: usize,
-    delay: usize,
     width: u8,
 ) -> Result<Stream, Memory>
     requires within { from.node.place < length net.old.cells }
@@ -57,19 +55,19 @@ pub(crate) fn interpolate(
     requires early { from.offset < 2 ^ 31 }
     requires factor_low { 1 ≤ factor }
     requires whole { from.period % factor ≡ 0 }
-    requires some { 1 ≤ stages }
-    requires few { stages ≤ 8 }
+    requires some { 1 ≤ N }
+    requires few { N ≤ 8 }
     requires wide { IsWidth width }
-    ensures ok { IfOk result (AddsInterpolator net.old net.new from width factor stages delay) }
+    ensures ok { IfOk result (AddsInterpolator net.old net.new from width factor N D) }
     ensures extends { Extends net.old.cells net.new.cells }
     ensures group { net.new.group ≡ net.old.group }
 {
-    let slow = combs(alloc, net, from, stages, delay, width)?;
+    let slow = combs(alloc, net, from, N, D, width)?;
     let fast = zero_stuffed(alloc, net, slow, factor, width)?;
-    let node = integrators(alloc, net, fast, stages, width)?;
+    let sums = integrators::<N>(alloc, net, fast, width)?;
     Ok(Stream {
-        node,
+        node: sums[N - 1],
         period: fast.period,
-        offset: fast.offset + (stages as u64 - 1) * fast.period + 1,
+        offset: fast.offset + (N as u64 - 1) * fast.period + 1,
     })
 }

@@ -70,7 +70,7 @@ impl<const N: usize, const D: usize> CicDown<N, D> {
         };
         let range = ranges.range(&sum, kept);
         let width = width_of(range);
-        let stream = decimate(alloc, net, from, self.factor, N, D, width)?;
+        let stream = decimate::<N, D>(alloc, net, from, self.factor, width)?;
         Ok(stream)
     }
 }
@@ -175,7 +175,7 @@ impl<const N: usize, const D: usize> CicUp<N, D> {
         let weights = cic_weights(alloc, N, self.factor as usize * D)?;
         let range = phase_range(alloc, weights.as_slice(), self.factor, ranges)?;
         let width = width_of(range);
-        let stream = interpolate(alloc, net, from, self.factor, N, D, width)?;
+        let stream = interpolate::<N, D>(alloc, net, from, self.factor, width)?;
         Ok(stream)
     }
 }

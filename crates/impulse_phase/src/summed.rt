@@ -13,7 +13,7 @@ ghost use Rattle.impulse_phase.specs.Summed.{IsTurn, HasRowsWithin, with_part, w
 use crate::filtered::place_before;
 use crate::table::{Response, Row};
 use mr_values::Memory;
-use running_sums::{added_behind, moved_cover, moved_row, moving_sum, ones};
+use running_sums::{Shifts, added_behind, moved_cover, moved_row, moving_sum, ones};
 use std::alloc::Global;
 
 /// The responses after a sum of `width` values.
@@ -37,7 +37,11 @@ pub(crate) fn through_sum(table: &Response, alloc: Global, width: u64) -> Result
         let more = &table.rows[index].weights;
         cover = moved_cover(alloc, &cover, turn.ahead, less.len(), turn.back, more.len())?;
         let sums = &rows[index - 1].weights;
-        let weights = moved_row(alloc, sums, turn.ahead, less, turn.back, more, cover.len())?;
+        let shifts = Shifts {
+            ahead: turn.ahead,
+            back: turn.back,
+        };
+        let weights = moved_row(alloc, sums, less, more, shifts, cover.len())?;
         rows.push(Row {
             newest: table.rows[index].newest,
             weights,

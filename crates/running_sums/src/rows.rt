@@ -10,25 +10,30 @@ use crate::sums::{both, moved_on, weight_before};
 use mr_values::Memory;
 use std::alloc::Global;
 
-/// The next row of a moving sum: the sum before it, which stands `ahead` places further on here, without the row `less`,
-/// which stands `back` places further on, and with the row `more`. Takes constant time for each of the `total` weights.
-/// Fails only for want of memory.
+/// How many places further on the sum before stands at the next index, and how many the row that leaves it.
+#[derive(Clone, Copy, Debug, PartialEq, Eq)]
+pub struct Shifts {
+    pub ahead: usize,
+    pub back: usize,
+}
+
+/// The next row of a moving sum: the sum before it without the row `less` and with the row `more`, the first two so many
+/// places further on. Takes constant time for each of the `total` weights. Fails only for want of memory.
 pub fn moved_row(
     alloc: Global,
     sums: &[i128],
-    ahead: usize,
     less: &[i128],
-    back: usize,
     more: &[i128],
+    shifts: Shifts,
     total: usize,
 ) -> Result<Vec<i128>, Memory>
-    requires room { HasRoom sums.now ahead less.now back more.now }
-    ensures { IfOk result (λ row. row.items ≡ places total (moved sums.now ahead less.now back more.now)) }
+    requires room { HasRoom sums.now shifts.ahead less.now shifts.back more.now }
+    ensures { IfOk result (λ row. row.items ≡ places total (moved sums.now shifts.ahead less.now shifts.back more.now)) }
 {
     let mut row = Vec::new(alloc);
     for place in 0..total {
-        let sum = weight_before(sums, place, ahead);
-        let old = weight_before(less, place, back);
+        let sum = weight_before(sums, place, shifts.ahead);
+        let old = weight_before(less, place, shifts.back);
         let new = weight_before(more, place, 0);
         row.push(moved_on(sum, old, new))?;
     }
@@ -53,13 +58,13 @@ pub fn moved_cover(
     let news = ones(alloc, more)?;
     let old_total = both(covers.len(), ahead)?;
     let total = more.max(old_total);
+    let shifts = Shifts { ahead, back };
     let mut row = moved_row(
         alloc,
         covers,
-        ahead,
         olds.as_slice(),
-        back,
         news.as_slice(),
+        shifts,
         total,
     )?;
     let end = end_of(row.as_slice());

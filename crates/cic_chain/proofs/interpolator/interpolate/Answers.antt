@@ -3,18 +3,18 @@ use Rattle.cic_chain.proofs.InterpolatorLemmas.{AddsInterpolator-all, fast_perio
 use Rattle.cic_chain.proofs.interpolator.interpolate.Goals as goal
 
 pub returns-clause-ok : goal.returns-clause-ok
-returns-clause-ok c =
-    AddsInterpolator-all c.args.from c.args.width c.args.factor c.args.stages c.args.delay c.requires.positive c.requires.wide.0 c.requires.factor_low c.requires.some
-    (fast_period c.in_ok-fast.ensures.ok c.in_ok-slow.ensures.ok c.requires.positive) c.in_ok-slow.ensures.ok c.in_ok-fast.ensures.ok c.in_ok-node.ensures.ok
+returns-clause-ok g c =
+    AddsInterpolator-all c.args.from c.args.width c.args.factor g.row.N g.row.D c.requires.positive c.requires.wide.0 c.requires.factor_low c.requires.some
+    (fast_period c.in_ok-fast.ensures.ok c.in_ok-slow.ensures.ok c.requires.positive) c.in_ok-slow.ensures.ok c.in_ok-fast.ensures.ok c.in_ok-sums.ensures.ok.last
 
 pub returns-clause-extends : goal.returns-clause-extends
-returns-clause-extends c = (returns-clause-ok c).piece.grows.extends
+returns-clause-extends g c = (returns-clause-ok g c).piece.grows.extends
 
 pub returns-clause-group : goal.returns-clause-group
-returns-clause-group c = (returns-clause-ok c).piece.grows.group
+returns-clause-group g c = (returns-clause-ok g c).piece.grows.group
 
 pub returns-in_err-fast-clause-extends : goal.returns-in_err-fast-clause-extends
-returns-in_err-fast-clause-extends c = Extends-trans _ _ _ c.in_ok-slow.ensures.extends c.in_err-fast.ensures.extends
+returns-in_err-fast-clause-extends g c = Extends-trans _ _ _ c.in_ok-slow.ensures.extends c.in_err-fast.ensures.extends
 
-pub returns-in_err-node-clause-extends : goal.returns-in_err-node-clause-extends
-returns-in_err-node-clause-extends c = Extends-trans _ _ _ c.in_ok-slow.ensures.extends (Extends-trans _ _ _ c.in_ok-fast.ensures.extends c.in_err-node.ensures.extends)
+pub returns-in_err-sums-clause-extends : goal.returns-in_err-sums-clause-extends
+returns-in_err-sums-clause-extends g c = Extends-trans _ _ _ c.in_ok-slow.ensures.extends (Extends-trans _ _ _ c.in_ok-fast.ensures.extends c.in_err-sums.ensures.extends)
