@@ -23,9 +23,10 @@ use Rattle.chain_build.specs.Added.{HasFacts, IsGroupAdded, IsGrown, AreNameless
 use Rattle.chain_build.specs.GroupCosts.{IsCostOf, AreCostsOf, AreUngrouped, AreApart, HasCosts}
 use Rattle.pipeline_balance.specs.Shapes.{HasLinearItems}
 use Rattle.stage_law.specs.Kinds.{has_linear_shape}
-use Rattle.chain_build.specs.Built.{kind_of}
+use Rattle.chain_build.specs.Built.{IsBuiltGroup, kind_of}
 use Rattle.chain_build.specs.Shapes.{HaveLinearItems}
 use Rattle.chain_build.proofs.ShapesSoFar.{shape_of, HasLinearItems-none, HasLinearItems-other, same_shapes, shapes_with}
+use Rattle.chain_build.proofs.GroupFacts.{CostsAs, costs-as}
 use Rattle.chain_build.proofs.Counting.{AreApart-before, HasSame, HasSame-grows, no_adders, no_windows, no_tables}
 
 -- the tables of the built groups
@@ -44,8 +45,6 @@ after_none n = omega arith
 same_cost : (g : Group) (number : ℕ) (old new : List Cell) (cost : GroupCost) → 1 ≤ number → HasSame number old new → IsCostOf g number old cost → IsCostOf g number new cost
 same_cost g number old new cost some same is = record {
   kind = is.kind;
-  facts = is.facts;
-  has_facts = is.has_facts;
   adders = is.adders;
   windows = is.windows;
   tables = is.tables;
@@ -104,9 +103,9 @@ CostsSoFar-first gs rest old net costs rest_is net_is costs_are bound ungrouped 
 
 module _ {gs : List Group} {net : List Cell} {rest : List Group} {costs : List GroupCost} {number : ℕ} (so : CostsSoFar gs net rest costs number) {g : Group} {others : List Group} (split : rest ≡ g ∷ others)
     (free : (name : Name) → (name.kind ≡ Control → ⊥) → number ≤ name.group → IsFree net name) where
-  pub CostsSoFar-next : {new : NetView} (mid : NetView) (streams : Streams) (last : Stream) (added : Added) → mid ≡ record { cells = net; group = number } → IsGroupAdded g streams mid new last added
+  pub CostsSoFar-next : IsBuiltGroup g → {new : NetView} (mid : NetView) (streams : Streams) (last : Stream) (added : Added) → mid ≡ record { cells = net; group = number } → IsGroupAdded g streams mid new last added
       → CostsSoFar gs new.cells others (costs ++ added.cost ∷ []) (number + 1)
-  CostsSoFar-next {new} mid streams last added is adds = record {
+  CostsSoFar-next built {new} mid streams last added is adds = record {
     front = so.front ++ g ∷ [];
     parts = append_assoc so.front (g ∷ []) others ∙ ap (λ (r : List Group). so.front ++ r) (sym split) ∙ so.parts;
     count = let e = so.count in let l = longer so.front in omega (arith, e, l);
@@ -187,17 +186,18 @@ module _ {gs : List Group} {net : List Cell} {rest : List Group} {costs : List G
         none = λ place cell at own. let low = so.below place cell (subst (λ (cells : List Cell). slice_get cells place ≡ Some cell) same_cells at) in let s = same_group in omega (arith, own, s, low);
       }
 
+      stands : CostsAs g adds.facts
+      stands = costs-as g adds.facts built adds.has_facts
+
       own_cost : IsCostOf g number new.cells added.cost
       own_cost = record {
         kind = adds.kind;
-        facts = adds.facts;
-        has_facts = adds.has_facts;
-        adders = adds.adders;
-        windows = adds.windows;
-        tables = adds.tables;
-        adders_in = adders_new;
-        windows_in = windows_new;
-        tables_in = tables_own;
+        adders = adds.adders ∙ stands.adders;
+        windows = adds.windows ∙ stands.windows;
+        tables = adds.tables ∙ stands.tables;
+        adders_in = adders_new ∙ stands.adders;
+        windows_in = windows_new ∙ stands.windows;
+        tables_in = tables_own ∙ stands.tables;
         shallow = subst (λ (k : ℕ). IsShallow new.cells k) same_group (r.shallow bound_mid new_group);
       }
 

@@ -12,10 +12,13 @@ use Rattle.stage_law.specs.Streams.{magnitudes}
 use Rattle.chain_build.specs.Built.{IsBuiltGroup, IsPlainGroup}
 use Rattle.stage_law.specs.Kinds.{carries_uncut}
 use Rattle.mr_values.specs.declared.plan.Mode.{Mode}
+use Rattle.mr_values.specs.declared.plan.Mode.TheVariants.{HalfUp, HalfEven, Floor}
 use Rattle.mr_values.specs.Sequence.{Sequence, up, down, filter}
 use Rattle.mr_values.specs.Value.{chain}
 use Rattle.mr_values.specs.Timing.{Group, Fir, DownCic, UpCic, Rounding, Clipping, Stream, up_factor, down_factor, group_delay, form_delay, form_of, taps_of}
 use Rattle.plan_check.specs.Amounts.{magnitude}
+use Rattle.plan_check.specs.StageCosts.{StageCost, form_cost, cost}
+use Rattle.polyphase_fir.proofs.CostLemmas.{adders-phases}
 use Rattle.plan_check.specs.Groups.{IsGroup}
 use Rattle.plan_laws.proofs.Reach.{apply_group, optional, filter_by}
 use Rattle.rounding_stage.specs.Rounding.{rounding_facts}
@@ -102,3 +105,34 @@ some-down (DownCic factor stages delay) facts own limits = let same = own.down i
 some-down (UpCic factor stages delay) facts own limits = let same = own.down in omega (arith, same)
 some-down (Rounding shift mode) facts own limits = let same = own.down in omega (arith, same)
 some-down (Clipping bits) facts own limits = let same = own.down in omega (arith, same)
+
+-- ---- costs
+
+-- the stage costs what the group does
+pub record CostsAs (g : Group) (facts : StageFacts) : Type 0 where
+  pub adders : facts.adders ≡ (cost g).adders
+  pub windows : facts.windows ≡ (cost g).windows
+  pub tables : facts.tables ≡ (cost g).tables
+
+parallel-costs : (u : Option ℕ) (f : Option (List ℤ × Form)) (d : Option ℕ) → form_of f ≡ Parallel → CostsAs (Fir u f d) (polyphase_facts (taps_of f) (unwrap_or u 1) (unwrap_or d 1))
+parallel-costs u f d plain =
+    let up = unwrap_or u 1 in
+    let taps = taps_of f in
+    let same : form_cost Parallel up taps ≡ cost (Fir u f d) = ap (λ (form : Form). form_cost form up taps) (sym plain) in
+    record {
+      adders = adders-phases up taps up ∙ ap (λ (c : StageCost). c.adders) same;
+      windows = ap (λ (c : StageCost). c.windows) same;
+      tables = ap (λ (c : StageCost). c.tables) same;
+    }
+
+rounding-costs : (shift : ℕ) (mode : Mode) → CostsAs (Rounding shift mode) (rounding_facts shift mode)
+rounding-costs shift HalfUp = record { adders = refl; windows = refl; tables = refl }
+rounding-costs shift HalfEven = record { adders = refl; windows = refl; tables = refl }
+rounding-costs shift Floor = record { adders = refl; windows = refl; tables = refl }
+
+pub costs-as : (g : Group) (facts : StageFacts) → IsBuiltGroup g → HasFacts g facts → CostsAs g facts
+costs-as (Fir u f d) facts is h = subst (CostsAs (Fir u f d)) (sym h) (parallel-costs u f d is)
+costs-as (DownCic factor stages delay) facts is h = subst (CostsAs (DownCic factor stages delay)) (sym h) (record { adders = refl; windows = refl; tables = refl })
+costs-as (UpCic factor stages delay) facts is h = subst (CostsAs (UpCic factor stages delay)) (sym h) (record { adders = refl; windows = refl; tables = refl })
+costs-as (Rounding shift mode) facts is h = subst (CostsAs (Rounding shift mode)) (sym h) (rounding-costs shift mode)
+costs-as (Clipping bits) facts is h = absurd h

@@ -5,23 +5,20 @@ use Rattle.net_graph.specs.declared.cell.Cell.{Cell}
 use Rattle.net_graph.specs.declared.name.Name.{Name}
 use Rattle.net_graph.specs.Count.{adders_in, windows_in, tables_in}
 use Rattle.net_graph.specs.Depth.{IsShallow}
-use Rattle.stage_law.specs.Facts.{StageFacts}
-use Rattle.chain_build.specs.Added.{HasFacts}
+use Rattle.plan_check.specs.StageCosts.{cost}
 use Rattle.chain_build.specs.Built.{kind_of}
 use Rattle.chain_build.specs.declared.groups.GroupCost.{GroupCost}
 
--- this is the form of the plan's group, its cost as a stage, and that of the net's group of this number, in which at most one adder stands
--- between two registers
-pub record IsCostOf (g : Group) (number : ℕ) (cells : List Cell) (cost : GroupCost) : Type 0 where
-  pub kind : cost.kind ≡ kind_of g
-  pub facts : StageFacts
-  pub has_facts : HasFacts g facts
-  pub adders : cost.cost.adders ≡ facts.adders
-  pub windows : cost.cost.windows ≡ facts.windows
-  pub tables : cost.cost.tables ≡ facts.tables
-  pub adders_in : adders_in number cells ≡ facts.adders
-  pub windows_in : windows_in number cells ≡ facts.windows
-  pub tables_in : tables_in number cells ≡ facts.tables
+-- told are the form of the plan's group and its cost as a stage, which is also that of the net's group of this number; in that at most one
+-- adder stands between two registers
+pub record IsCostOf (g : Group) (number : ℕ) (cells : List Cell) (told : GroupCost) : Type 0 where
+  pub kind : told.kind ≡ kind_of g
+  pub adders : told.cost.adders ≡ (cost g).adders
+  pub windows : told.cost.windows ≡ (cost g).windows
+  pub tables : told.cost.tables ≡ (cost g).tables
+  pub adders_in : adders_in number cells ≡ (cost g).adders
+  pub windows_in : windows_in number cells ≡ (cost g).windows
+  pub tables_in : tables_in number cells ≡ (cost g).tables
   pub shallow : IsShallow cells number
 
 -- these are the costs of the groups, numbered from here

@@ -119,8 +119,6 @@ module _ (cells : List Cell) (counts : CountsAs cells) (deep : (number : ℕ) �
   are_counted number (g ∷ gs) [] some low are = absurd are
   are_counted number (g ∷ gs) (c ∷ costs) some low are = (
     record {
-      facts = are.0.facts;
-      has_facts = are.0.has_facts;
       counts = same_counts d (written_module cells) same number ∙ counts.each number some (omega (arith, low))
           ∙ (λ i. record { adders = are.0.adders_in i; windows = are.0.windows_in i; tables = are.0.tables_in i });
       depth = same_depth d (written_module cells) same number 1 (deep number some (omega (arith, low)) are.0.shallow);

@@ -19,11 +19,10 @@ use Rattle.net_module.specs.Steps.{ticks_in, pair_of}
 use Rattle.filter_text.specs.Runs.{samples_in, IsRunFrom}
 use Rattle.filter_text.specs.Registers.{HasLinearRegisters, AreLeastRegisters}
 use Rattle.filter_text.specs.Cascades.{in_module}
-use Rattle.chain_build.specs.Added.{HasFacts}
+use Rattle.plan_check.specs.StageCosts.{cost}
 use Rattle.chain_build.specs.Alike.{HoldsOfEachCascade}
 use Rattle.chain_build.specs.Built.{ArePlainGroups, kind_of}
 use Rattle.chain_build.specs.Linear.{output_range}
-use Rattle.stage_law.specs.Facts.{StageFacts}
 use Rattle.stage_law.specs.Kinds.{has_linear_shape}
 use Rattle.module_names.specs.Control.{HasControl}
 use Rattle.module_names.specs.Names.{HasNames}
@@ -99,9 +98,7 @@ pub record IsLeastOutput (elements : List Element) (width bits : ℕ) : Type 0 w
 -- counted in the module's statements, the group of this number costs what the plan's group costs as a stage, and at most one of its
 -- adders stands between two registers
 pub record IsCounted (g : Group) (number : ℕ) (d : Design) : Type 0 where
-  pub facts : StageFacts
-  pub has_facts : HasFacts g facts
-  pub counts : counted d number ≡ record { adders = facts.adders; windows = facts.windows; tables = facts.tables }
+  pub counts : counted d number ≡ record { adders = (cost g).adders; windows = (cost g).windows; tables = (cost g).tables }
   pub depth : HasDepth d number 1
 
 -- so do the groups, numbered from here

@@ -30,3 +30,4 @@ pub mod AgeLemmas
 pub mod SmallLemmas
 pub mod TreeLemmas
 pub mod GainLemmas
+pub mod CostLemmas

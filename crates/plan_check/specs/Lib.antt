@@ -5,3 +5,4 @@ pub mod Forms
 pub mod Costs
 pub mod Accepted
 pub mod Views
+pub mod StageCosts

@@ -5,3 +5,4 @@ pub mod RegisterLemmas
 pub mod RootLemmas
 pub mod ShownLemmas
 pub mod RealisesLemmas
+pub mod CostLemmas

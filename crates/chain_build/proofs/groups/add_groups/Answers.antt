@@ -13,7 +13,7 @@ use Rattle.chain_build.proofs.RegistersSoFar.{RegistersSoFar, RegistersSoFar-sta
 use Rattle.chain_build.proofs.PeaksSoFar.{PeaksSoFar-start, peaks_next, peaks_end}
 use Rattle.chain_build.proofs.StepAt.{registers_next, registers_end}
 use Rattle.chain_build.proofs.Roundings.{rounded-more}
-use Rattle.chain_build.proofs.SoFar.{SoFar-plan, SoFar-next, SoFar-all, SoFar-end, SoFar-none, no_facts, so_at, so_none, so_all, unused, taking}
+use Rattle.chain_build.proofs.SoFar.{SoFar-plan, SoFar-next, SoFar-all, SoFar-end, SoFar-none, no_facts, so_at, so_none, so_all, is_built_head, unused, taking}
 use Rattle.chain_build.proofs.Taking.{can_take, holds_before}
 use Rattle.chain_build.proofs.groups.add_groups.Goals as goal
 
@@ -56,7 +56,7 @@ loop-fact-preserved c =
         cascades_next c.requires.accepted so c.in-Some.ensures c.loop-fact.rounded c.loop-fact.invariant.0.2 c.set_group-in-loop-fact.ensures c.in_ok-added.ensures.ok c.loop-fact.invariant.0.5,
       ),
       subst (λ (costs : List GroupCost). CostsSoFar (groups c.args.plan.now.elements) c.add_next.new.net.cells (groups c.in-Some.others.now) costs (c.loop-fact.number + 1)) (sym c.in_ok-push.ensures.items)
-          (CostsSoFar-next c.loop-fact.invariant.1 c.in-Some.ensures.parts (λ name data_kind more. c.loop-fact.invariant.0.1.names name data_kind (inl more)) c.set_group-in-loop-fact.new.self _ c.loop-fact.last c.in_ok-added.added c.set_group-in-loop-fact.ensures c.in_ok-added.ensures.ok),
+          (CostsSoFar-next c.loop-fact.invariant.1 c.in-Some.ensures.parts (λ name data_kind more. c.loop-fact.invariant.0.1.names name data_kind (inl more)) (is_built_head so c.in-Some.ensures) c.set_group-in-loop-fact.new.self _ c.loop-fact.last c.in_ok-added.added c.set_group-in-loop-fact.ensures c.in_ok-added.ensures.ok),
       record {
         own = let own : c.add_next.new.net.group ≡ c.loop-fact.number = c.in_ok-added.ensures.same_group ∙ ap (λ (n : NetView). n.group) c.set_group-in-loop-fact.ensures in inl (omega (arith, own));
       },
