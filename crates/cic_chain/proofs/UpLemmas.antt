@@ -5,11 +5,11 @@ use Rattle.std.proofs.lemmas.Int.{ints}
 use Rattle.mr_values.specs.Width.{pattern, signed, wrap, floor_quotient, floor_remainder}
 use Rattle.mr_values.proofs.WidthLemmas.{wrap_fits, wrap_zero}
 use Rattle.mr_values.specs.Sequence.{Sequence, up}
-use Rattle.cic_chain.specs.Cascade.{IsCausal, whole, sum_to, integrator, integrators, combs, interpolator, WholeUp, WrappedUp}
+use Rattle.cic_chain.specs.Cascade.{IsCausal, whole, sum_to, integrator, integrators, combs, interpolator, AreCongruent, WholeUp, WrappedUp}
 use Rattle.mr_values.proofs.Ring.{+ℤ-*ℤ}
 use Rattle.mr_values.proofs.Division.{floor_unique, floor_split, floor_remainder_below}
 use Rattle.cic_chain.proofs.WholeLemmas.{plain_comb, plain_combs, combs-plain, integrator-step, integrators-causal, combs-integrators}
-use Rattle.cic_chain.proofs.WrapLemmas.{AreCongruent, integrator-congruent, combs-congruent, cut_again}
+use Rattle.cic_chain.proofs.WrapLemmas.{integrators-from, combs-congruent, cut_again}
 
 -- ---- a comb commutes with an integrator
 
@@ -94,20 +94,16 @@ whole_up factor stages delay x positive c n =
 -- ---- modulo a power of two
 
 module _ (w : ℕ) (wide : 1 ≤ w) where
-  integrators-both : (k : ℕ) (x y : Sequence) → AreCongruent w wide x y → AreCongruent w wide (integrators (wrap w) k x) (integrators whole k y)
-  integrators-both zero x y c = c
-  integrators-both (suc k) x y c = integrator-congruent w wide (integrators (wrap w) k x) (integrators whole k y) (integrators-both k x y c)
-
-  up-congruent : (factor : ℕ) (x y : Sequence) → AreCongruent w wide x y → AreCongruent w wide (up factor x) (up factor y)
+  up-congruent : (factor : ℕ) (x y : Sequence) → AreCongruent w x y → AreCongruent w (up factor x) (up factor y)
   up-congruent factor x y c = λ m. each (nat_eq (floor_remainder m factor) 0) (x (floor_quotient m factor)) (y (floor_quotient m factor)) (c (floor_quotient m factor))
     where
       each : (b : Bool) (p q : ℤ) → pattern w p ≡ pattern w q → pattern w (cond b p (pos 0)) ≡ pattern w (cond b q (pos 0))
       each true p q e = e
       each false p q e = refl
 
-  interpolator-congruent : (factor stages delay : ℕ) (x : Sequence) → AreCongruent w wide (interpolator (wrap w) factor stages delay x) (interpolator whole factor stages delay x)
+  interpolator-congruent : (factor stages delay : ℕ) (x : Sequence) → AreCongruent w (interpolator (wrap w) factor stages delay x) (interpolator whole factor stages delay x)
   interpolator-congruent factor stages delay x =
-      integrators-both stages _ _ (up-congruent factor _ _ (combs-congruent w wide stages delay x x (λ n. refl)))
+      integrators-from w wide stages _ _ (up-congruent factor _ _ (combs-congruent w wide stages delay x x (λ n. refl)))
 
   -- an integrator's value is of the width
   integrator-cut : (y : Sequence) (n : ℤ) → wrap w (integrator (wrap w) y n) ≡ integrator (wrap w) y n

@@ -1,7 +1,7 @@
 -- Integrators, combs and a change of rate, with every result cut in one way. Hogenauer 1981, II.
 use Rattle.std.specs.Prelude.{◌≡◌, ℕ, zero, suc, ◌≤◌, ℤ, pos, negsuc, ◌+ℤ◌, ◌-ℤ◌}
 use Rattle.mr_values.specs.Sequence.{Sequence, up, down, cic_up, cic_down}
-use Rattle.mr_values.specs.Width.{wrap, FitsWidth}
+use Rattle.mr_values.specs.Width.{pattern, wrap, FitsWidth}
 
 -- 0 at every index below 0
 abbrev pub IsCausal : Sequence → Type 0
@@ -61,3 +61,18 @@ WrappedDown = (width factor stages delay : ℕ) (x : Sequence) → 1 ≤ width �
 abbrev pub WrappedUp : Type 0
 WrappedUp = (width factor stages delay : ℕ) (x : Sequence) → 1 ≤ width → 1 ≤ factor → 1 ≤ stages → IsCausal x → (n : ℤ)
     → FitsWidth width (cic_up factor stages delay x n) → interpolator (wrap width) factor stages delay x n ≡ cic_up factor stages delay x n
+
+-- the two sequences are the same modulo 2^width at every index
+abbrev pub AreCongruent : ℕ → Sequence → Sequence → Type 0
+AreCongruent width x y = (n : ℤ) → pattern width (x n) ≡ pattern width (y n)
+
+-- Registers that wrap hold their whole numbers modulo 2^width: each integrator, each comb, and each register of a comb's delay, on a stream
+-- that is itself so.
+abbrev pub WrapsIntegrators : Type 0
+WrapsIntegrators = (width stages : ℕ) (x y : Sequence) → 1 ≤ width → AreCongruent width x y → AreCongruent width (integrators (wrap width) stages x) (integrators whole stages y)
+
+abbrev pub WrapsCombs : Type 0
+WrapsCombs = (width stages delay : ℕ) (x y : Sequence) → 1 ≤ width → AreCongruent width x y → AreCongruent width (combs (wrap width) stages delay x) (combs whole stages delay y)
+
+abbrev pub WrapsDelays : Type 0
+WrapsDelays = (width delay : ℕ) (x y : Sequence) → 1 ≤ width → AreCongruent width x y → AreCongruent width (earlier (wrap width) delay x) (earlier whole delay y)
