@@ -18,7 +18,7 @@ use Rattle.fir_pieces.specs.Placed.{powers}
 
 -- ---- the sum
 
-phase-one : (taps : List ℤ) → phase 1 0 taps ≡ taps
+pub phase-one : (taps : List ℤ) → phase 1 0 taps ≡ taps
 phase-one [] = refl
 phase-one (c ∷ cs) = ap (λ (xs : List ℤ). c ∷ xs) (phase-one cs)
 

@@ -4,3 +4,4 @@ pub mod SmallLemmas
 pub mod RealisesLemmas
 pub mod ReadyLemmas
 pub mod MirroredLemmas
+pub mod CostLemmas

@@ -241,45 +241,48 @@ length-readings anti taps =
 
 -- ---- the number of terms
 
-place_terms : (taps : List ℤ) (i : ℕ) → sum_by digit_count (map (tap taps) (place_if taps i)) ≡ digit_count (tap taps i)
-place_terms taps i = by_test (is_zero (tap taps i)) refl
+place_sums : (count : ℤ → ℕ) → count (pos 0) ≡ 0 → (taps : List ℤ) (i : ℕ) → sum_by count (map (tap taps) (place_if taps i)) ≡ count (tap taps i)
+place_sums count none taps i = by_test (is_zero (tap taps i)) refl
   where
-    by_test : (b : Bool) → is_zero (tap taps i) ≡ b → sum_by digit_count (map (tap taps) (cond b [] (i ∷ []))) ≡ digit_count (tap taps i)
-    by_test true e = sym (ap digit_count (is_zero-true (tap taps i) e))
-    by_test false e = sum_by-cons digit_count (tap taps i) [] ∙ none_more (digit_count (tap taps i))
+    by_test : (b : Bool) → is_zero (tap taps i) ≡ b → sum_by count (map (tap taps) (cond b [] (i ∷ []))) ≡ count (tap taps i)
+    by_test true e = sym (ap count (is_zero-true (tap taps i) e) ∙ none)
+    by_test false e = sum_by-cons count (tap taps i) [] ∙ none_more (count (tap taps i))
       where
         none_more : (n : ℕ) → n + 0 ≡ n
         none_more n = omega arith
 
-places_terms : (taps : List ℤ) (i : ℕ) → i ≤ length taps → sum_by digit_count (map (tap taps) (places_below taps i)) ≡ sum_by digit_count (take i taps)
-places_terms taps zero h = refl
-places_terms taps (suc i) h =
+places_sums : (count : ℤ → ℕ) → count (pos 0) ≡ 0 → (taps : List ℤ) (i : ℕ) → i ≤ length taps → sum_by count (map (tap taps) (places_below taps i)) ≡ sum_by count (take i taps)
+places_sums count none taps zero h = refl
+places_sums count none taps (suc i) h =
     let split : map (tap taps) (places_below taps i ++ place_if taps i) ≡ map (tap taps) (places_below taps i) ++ map (tap taps) (place_if taps i) = map-append (tap taps) (places_below taps i) (place_if taps i) in
-    let sum = sum_by-append digit_count (map (tap taps) (places_below taps i)) (map (tap taps) (place_if taps i)) in
-    let rest = places_terms taps i (omega arith) in
-    let own = place_terms taps i in
+    let sum = sum_by-append count (map (tap taps) (places_below taps i)) (map (tap taps) (place_if taps i)) in
+    let rest = places_sums count none taps i (omega arith) in
+    let own = place_sums count none taps i in
     let longer : take (suc i) taps ≡ take i taps ++ (get_or taps i (pos 0) ∷ []) = take-suc taps i (pos 0) (omega arith) in
-    ap (sum_by digit_count) split ∙ sum ∙ ap (λ (n : ℕ). n + sum_by digit_count (map (tap taps) (place_if taps i))) rest ∙ ap (λ (n : ℕ). sum_by digit_count (take i taps) + n) own
-    ∙ sym (sum_by_push digit_count (take i taps) (get_or taps i (pos 0))) ∙ sym (ap (sum_by digit_count) longer)
+    ap (sum_by count) split ∙ sum ∙ ap (λ (n : ℕ). n + sum_by count (map (tap taps) (place_if taps i))) rest ∙ ap (λ (n : ℕ). sum_by count (take i taps) + n) own
+    ∙ sym (sum_by_push count (take i taps) (get_or taps i (pos 0))) ∙ sym (ap (sum_by count) longer)
 
--- the first taps have as many terms as the first half
-pub half_terms : (taps : List ℤ) → terms (firsts taps) ≡ terms (take (ceil_div (length taps) 2) taps)
-half_terms taps =
-    ap (sum_by digit_count) (map-append (tap taps) (pair_places taps) (centre_places taps)) ∙ sum_by-append digit_count (map (tap taps) (pair_places taps)) (map (tap taps) (centre_places taps)) ∙ by_rest (length taps % 2) refl
+-- the first taps have the sum of the first half, where a tap of 0 counts nothing
+pub half_sums : (count : ℤ → ℕ) → count (pos 0) ≡ 0 → (taps : List ℤ) → sum_by count (firsts taps) ≡ sum_by count (take (ceil_div (length taps) 2) taps)
+half_sums count none taps =
+    ap (sum_by count) (map-append (tap taps) (pair_places taps) (centre_places taps)) ∙ sum_by-append count (map (tap taps) (pair_places taps)) (map (tap taps) (centre_places taps)) ∙ by_rest (length taps % 2) refl
   where
-    by_rest : (r : ℕ) → length taps % 2 ≡ r → sum_by digit_count (map (tap taps) (places_below taps (length taps / 2))) + sum_by digit_count (map (tap taps) (centre_if r taps)) ≡ sum_by digit_count (take (ceil_div (length taps) 2) taps)
+    by_rest : (r : ℕ) → length taps % 2 ≡ r → sum_by count (map (tap taps) (places_below taps (length taps / 2))) + sum_by count (map (tap taps) (centre_if r taps)) ≡ sum_by count (take (ceil_div (length taps) 2) taps)
     by_rest zero h =
         let at : length taps / 2 ≡ ceil_div (length taps) 2 = omega (arith, h) in
-        let pairs_are = places_terms taps (length taps / 2) (omega arith) in
-        none_more (sum_by digit_count (map (tap taps) (places_below taps (length taps / 2)))) ∙ pairs_are ∙ ap (λ (n : ℕ). sum_by digit_count (take n taps)) at
+        let pairs_are = places_sums count none taps (length taps / 2) (omega arith) in
+        none_more (sum_by count (map (tap taps) (places_below taps (length taps / 2)))) ∙ pairs_are ∙ ap (λ (n : ℕ). sum_by count (take n taps)) at
       where
         none_more : (n : ℕ) → n + 0 ≡ n
         none_more n = omega arith
     by_rest (suc r) h =
         let at : suc (length taps / 2) ≡ ceil_div (length taps) 2 = omega (arith, h) in
-        let whole = places_terms taps (suc (length taps / 2)) (omega (arith, h)) in
-        sym (sum_by-append digit_count (map (tap taps) (places_below taps (length taps / 2))) (map (tap taps) (place_if taps (length taps / 2))))
-        ∙ ap (sum_by digit_count) (sym (map-append (tap taps) (places_below taps (length taps / 2)) (place_if taps (length taps / 2)))) ∙ whole ∙ ap (λ (n : ℕ). sum_by digit_count (take n taps)) at
+        let whole = places_sums count none taps (suc (length taps / 2)) (omega (arith, h)) in
+        sym (sum_by-append count (map (tap taps) (places_below taps (length taps / 2))) (map (tap taps) (place_if taps (length taps / 2))))
+        ∙ ap (sum_by count) (sym (map-append (tap taps) (places_below taps (length taps / 2)) (place_if taps (length taps / 2)))) ∙ whole ∙ ap (λ (n : ℕ). sum_by count (take n taps)) at
+
+pub half_terms : (taps : List ℤ) → terms (firsts taps) ≡ terms (take (ceil_div (length taps) 2) taps)
+half_terms taps = half_sums digit_count refl taps
 
 pub length-mirror_terms : (taps : List ℤ) → length (mirror_terms taps) ≡ terms (take (ceil_div (length taps) 2) taps)
 length-mirror_terms taps = length-terms_of (firsts taps) ∙ half_terms taps
