@@ -1,18 +1,20 @@
 -- The first check that fails is the same in modules that are alike.
 use Rattle.std.proofs.lemmas.Bool.{eqb-true}
 use Rattle.std.proofs.lemmas.Option.{slice_get_within}
-use Rattle.std.proofs.Common.{◌≡◌, ℕ, zero, suc, ◌||◌, Bool, true, false, cond, List, [], ◌∷◌, Option, None, Some, refl, sym, ◌∙◌, ap, subst, arith}
+use Rattle.std.proofs.Common.{◌≡◌, ℕ, zero, suc, ◌||◌, Bool, true, false, cond, List, [], ◌∷◌, Option, None, Some, ◌⊎◌, inl, inr, refl, sym, ◌∙◌, ap, subst, arith}
 use Rattle.std.specs.Prelude.{◌==◌, is_some, slice_get}
 use Rattle.std.specs.Option.{option_map}
 use Rattle.verilog_tree.specs.declared.fault.ModuleFault.{ModuleFault}
 use Rattle.verilog_tree.specs.declared.fault.ModuleFault.TheVariants.{Redeclared, Undeclared, PortShape, WrongKind, WidthOver, BadSelect, ManyDrivers, NoDriver, CombLoop, Memory}
 use Rattle.verilog_tree.specs.Alike.{SameName, IsAlikeTree, AreAlikeTrees, AreAlikeAssigns, IsAlike}
-use Rattle.verilog_tree.specs.Checks.{or_else, undeclared, wrong_port, wrong_kind, width_over, bad_select, many_drivers, no_driver, redeclared, named, early_fault, DependsBy, DependsOnItself, IsLoopFault, Face, FailsAs, Early, Loop}
+use Rattle.verilog_tree.specs.Checks.{or_else, undeclared, wrong_port, wrong_kind, width_over, bad_select, many_drivers, no_driver, redeclared, named, early_fault, DependsBy, DependsOnItself, IsLoopFault, Face, PassesAs, FailsAs, Early, Loop}
 use Rattle.verilog_tree.specs.Cycle.{reads, any_reads}
 use Rattle.verilog_tree.specs.Names.{text_of}
 use Rattle.verilog_tree.specs.Renaming.{AreDistinct}
 use Rattle.verilog_tree.specs.Tree.{Tree, Trees, Name, Bit, Part, Plain, Based, Cat, Not, Binary, Shift, Choice, none, more, Assignment, Design}
 use Rattle.module_laws.proofs.Passing.{NoneFails, none_fails, early_none}
+use Rattle.verilog_check.proofs.OneAnswer.{excluded}
+use Rattle.verilog_check.proofs.Totality.{total}
 use Rattle.alike_laws.specs.Laws.{check_number, HaveSameChecks}
 use Rattle.alike_laws.proofs.Matching.{one_there, one_back, same_equal}
 use Rattle.alike_laws.proofs.Trees.{same_reads}
@@ -257,9 +259,31 @@ module _ (d e : Design) (alike : IsAlike d e) (distinct_d : AreDistinct d.names)
     same_fails fault other (Early p) (Loop q v) = absurd (let h = early_none face d (none_back (none_fails face e q)) in cc)
     same_fails fault other (Loop p u) (Early q) = absurd (let h = early_none face e (none_there (none_fails face d p)) in cc)
 
+    passes_there : PassesAs face d → PassesAs face e
+    passes_there passes = record { early = early_none face e (none_there (none_fails face d passes.early)); free = λ n loop. let b = loop_back n loop in passes.free b.0 b.1 }
+
+    passes_back : PassesAs face e → PassesAs face d
+    passes_back passes = record { early = early_none face d (none_back (none_fails face e passes.early)); free = λ n loop. let b = loop_there n loop in passes.free b.0 b.1 }
+
+    fails_there : (fault : ModuleFault) → FailsAs face d fault → (other : ModuleFault) × FailsAs face e other × (check_number other ≡ check_number fault)
+    fails_there fault fails = by (total face e)
+      where
+        by : PassesAs face e ⊎ ((other : ModuleFault) × FailsAs face e other) → (other : ModuleFault) × FailsAs face e other × (check_number other ≡ check_number fault)
+        by (inl passes) = absurd (excluded d fault (passes_back passes) fails)
+        by (inr (other, its)) = (other, its, sym (same_fails fault other fails its))
+
+    fails_back : (other : ModuleFault) → FailsAs face e other → (fault : ModuleFault) × FailsAs face d fault × (check_number fault ≡ check_number other)
+    fails_back other fails = by (total face d)
+      where
+        by : PassesAs face d ⊎ ((fault : ModuleFault) × FailsAs face d fault) → (fault : ModuleFault) × FailsAs face d fault × (check_number fault ≡ check_number other)
+        by (inl passes) = absurd (excluded e other (passes_there passes) fails)
+        by (inr (fault, its)) = (fault, its, same_fails fault other its fails)
+
     pub same_checks : HaveSameChecks face d e
     same_checks = record {
-      there = λ passes. record { early = early_none face e (none_there (none_fails face d passes.early)); free = λ n loop. let b = loop_back n loop in passes.free b.0 b.1 };
-      back = λ passes. record { early = early_none face d (none_back (none_fails face e passes.early)); free = λ n loop. let b = loop_there n loop in passes.free b.0 b.1 };
+      there = passes_there;
+      back = passes_back;
+      fails_there = fails_there;
+      fails_back = fails_back;
       same = same_fails;
     }

@@ -22,10 +22,12 @@ check_number (NoDriver name) = 8
 check_number (CombLoop name) = 9
 check_number Memory = 0
 
--- each passes the checks with the ports of a face where the other does; else the first check that fails is the same, whichever signal it names
+-- each passes the checks with the ports of a face where the other does; else both fail, and the first check that fails is the same, whichever signal it names
 pub record HaveSameChecks (face : Face) (d e : Design) : Type 0 where
   pub there : PassesAs face d → PassesAs face e
   pub back : PassesAs face e → PassesAs face d
+  pub fails_there : (fault : ModuleFault) → FailsAs face d fault → (other : ModuleFault) × FailsAs face e other × (check_number other ≡ check_number fault)
+  pub fails_back : (other : ModuleFault) → FailsAs face e other → (fault : ModuleFault) × FailsAs face d fault × (check_number fault ≡ check_number other)
   pub same : (fault other : ModuleFault) → FailsAs face d fault → FailsAs face e other → check_number fault ≡ check_number other
 
 -- names of one text have the same pattern

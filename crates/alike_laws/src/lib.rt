@@ -7,8 +7,8 @@ ghost use Rattle.verilog_tree.specs.Renaming.{AreDistinct};
 ghost use Rattle.verilog_tree.specs.Tree.{Design};
 ghost use Rattle.alike_laws.specs.Laws.{HaveSameChecks, HaveSameRuns};
 
-/// Of modules that are alike each passes the checks with the ports of a face where the other does; else the first check that fails is the same, whichever signal
-/// it names.
+/// Of modules that are alike each passes the checks with the ports of a face where the other does; else both fail, and the first check that fails is the same,
+/// whichever signal it names.
 pub fn law_of_same_checks()
     ensures { (face : Face) (d e : Design) → AreDistinct d.names → AreDistinct e.names → IsAlike d e → HaveSameChecks face d e }
 {}

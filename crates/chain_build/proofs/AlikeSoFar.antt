@@ -24,11 +24,12 @@ use Rattle.stage_law.specs.Streams.{Streams}
 use Rattle.stage_law.proofs.AlikeLemmas.{HasAlike-later}
 use Rattle.chain_build.specs.declared.groups.Added.{Added}
 use Rattle.chain_build.specs.declared.output.Outputs.{Outputs}
+use Rattle.plan_check.specs.Forms.{Flow}
 use Rattle.chain_build.specs.Added.{HasFacts, IsGroupAdded}
 use Rattle.chain_build.specs.Alike.{OfCascade, HoldsOfCascade, HoldsOfCascades, HasCascades, in_net}
 use Rattle.chain_build.specs.Built.{rounds, has_rounding}
 use Rattle.chain_build.specs.Output.{AddsOutputs}
-use Rattle.chain_build.specs.Prefixes.{streams_before, elements_before}
+use Rattle.chain_build.specs.Prefixes.{flow_before, streams_before, elements_before}
 use Rattle.chain_build.proofs.Prefixes.{sizes}
 use Rattle.chain_build.proofs.SoFar.{SoFar, SoFar-all, span_low, span_high}
 use Rattle.chain_build.proofs.Taking.{taken-is}
@@ -93,18 +94,18 @@ net_follows number e leaves = record { each = λ streams made count has. HasAlik
 -- ---- the step of a group
 
 -- what a stage of one width has
-cascade_of : (streams : Streams) (g : Group) (facts : StageFacts) (number : ℕ) (cells : List Cell) → HasFacts g facts → (has_one_width facts.kind ≡ true → HasAlike streams (chain facts.elements) cells number facts.alike) → HoldsOfCascade (in_net cells) streams g number
-cascade_of streams (Fir up filter down) facts number cells has alike = tt
-cascade_of streams (DownCic factor stages delay) facts number cells has alike =
+cascade_of : (streams : Streams) (g : Group) (flow : Flow) (facts : StageFacts) (number : ℕ) (cells : List Cell) → HasFacts g flow facts → (has_one_width facts.kind ≡ true → HasAlike streams (chain facts.elements) cells number facts.alike) → HoldsOfCascade (in_net cells) streams g number
+cascade_of streams (Fir up filter down) flow facts number cells has alike = tt
+cascade_of streams (DownCic factor stages delay) flow facts number cells has alike =
     subst (λ (f : StageFacts). (has_one_width f.kind ≡ true → HasAlike streams (chain f.elements) cells number f.alike)) has alike refl
-cascade_of streams (UpCic factor stages delay) facts number cells has alike =
+cascade_of streams (UpCic factor stages delay) flow facts number cells has alike =
     subst (λ (f : StageFacts). (has_one_width f.kind ≡ true → HasAlike streams (chain f.elements) cells number f.alike)) has alike refl
-cascade_of streams (Rounding shift mode) facts number cells has alike = tt
-cascade_of streams (Clipping bits) facts number cells has alike = tt
+cascade_of streams (Rounding shift mode) flow facts number cells has alike = tt
+cascade_of streams (Clipping bits) flow facts number cells has alike = tt
 
 module _ {plan : Plan} {old net mid new : NetView} {from last : Stream} {rest : List Element} {fact : GroupFacts} {left : List GroupFacts} {number : ℕ} {front : List Group} {g : Group} {others : List Element} {added : Added}
     (accepted : IsAccepted plan) (so : SoFar (size plan.width) (size plan.ticks) plan.elements old net from last rest (fact ∷ left) number front) (split : IsSplit rest g others) (rounded : Bool) (rounded_is : rounded ≡ has_rounding front)
-    (mid_is : mid ≡ record { cells = net.cells; group = number }) (adds : IsGroupAdded g (streams_before rounded (size plan.width) (elements_before plan fact) fact.span_lo fact.span_hi) mid new last added) where
+    (mid_is : mid ≡ record { cells = net.cells; group = number }) (adds : IsGroupAdded g (flow_before last.period fact) (streams_before rounded (size plan.width) (elements_before plan fact) fact.span_lo fact.span_hi) mid new last added) where
   abbrev W : ℕ
   W = size plan.width
 
@@ -128,7 +129,7 @@ module _ {plan : Plan} {old net mid new : NetView} {from last : Stream} {rest : 
   own =
       subst (λ (n : ℕ). HoldsOfCascade (in_net new.cells) (streams_before (has_rounding front) W (take (sizes front) plan.elements) here.low here.high) g n) (same_group ∙ so.number_is)
       (subst (λ (streams : Streams). HoldsOfCascade (in_net new.cells) streams g mid.group) streams_is
-      (cascade_of (streams_before rounded W (elements_before plan fact) fact.span_lo fact.span_hi) g adds.facts mid.group new.cells adds.has_facts adds.realises.alike))
+      (cascade_of (streams_before rounded W (elements_before plan fact) fact.span_lo fact.span_hi) g (flow_before last.period fact) adds.facts mid.group new.cells adds.has_facts adds.realises.alike))
 
   -- the group takes no name of another
   others_free : (k : ℕ) → k < 1 + length front → LeavesGroup k net.cells new.cells

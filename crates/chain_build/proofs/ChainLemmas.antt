@@ -1,5 +1,5 @@
 -- The net of a plan, part by part.
-use Rattle.std.proofs.Common.{◌≡◌, ◌⊎◌, ℕ, zero, suc, ◌+◌, ◌-◌, ◌*◌, ◌<◌, ◌≤◌, List, [], ◌∷◌, length, refl, sym, ◌∙◌, ap, arith, Some, None, slice_get, inl, inr, subst, ℤ, pos, IsSome, true, false}
+use Rattle.std.proofs.Common.{◌≡◌, ◌⊎◌, ℕ, zero, suc, ◌+◌, ◌-◌, ◌*◌, ◌<◌, ◌≤◌, List, [], ◌∷◌, length, refl, sym, ◌∙◌, ap, arith, Some, None, slice_get, inl, inr, subst, ℤ, pos, IsSome, Bool, true, false, ◌&&◌}
 use Rattle.std.specs.Prelude.{All}
 use Rattle.std.proofs.lemmas.Int.{ints}
 use Rattle.std.proofs.lemmas.Nat.{pow_pos}
@@ -7,7 +7,7 @@ use Rattle.std.proofs.lemmas.Bool.{cases_lt}
 use Rattle.mr_values.specs.declared.plan.Element.{Element}
 use Rattle.mr_values.specs.declared.plan.Element.TheVariants.{Up, Down, Filter, CicDown, CicUp, Round, Clip}
 use Rattle.mr_values.specs.declared.plan.Mode.TheVariants.{HalfUp, HalfEven, Floor}
-use Rattle.mr_values.specs.declared.plan.Form.TheVariants.{Parallel, Symmetric, HalfBand, Folded, Distributed}
+use Rattle.mr_values.specs.declared.plan.Form.{Form}
 use Rattle.mr_values.specs.Timing.{Group, Fir, DownCic, UpCic, Rounding, Clipping, join_up, join_filter, groups, input, last_stream, latency}
 use Rattle.mr_values.specs.Sequence.{samples}
 use Rattle.mr_values.specs.Value.{chain, size, has_clip}
@@ -33,30 +33,34 @@ use Rattle.chain_build.specs.declared.groups.GroupCost.{GroupCost}
 use Rattle.chain_build.specs.declared.output.Outputs.{Outputs}
 use Rattle.chain_build.specs.Added.{IsGrown, AreNameless, CarriesChain, IsChained}
 use Rattle.chain_build.specs.Built.{are_built, AreBuiltGroups, has_rounding}
+use Rattle.chain_build.specs.Forms.{is_built_form}
 use Rattle.chain_build.specs.ChainNet.{HasInput, HasSamples, ShowsValues, IsChainNet}
-use Rattle.chain_build.specs.GroupCosts.{AreUngrouped, AreApart, HasCosts}
+use Rattle.chain_build.specs.GroupCosts.{AreUngrouped, HasCosts}
 use Rattle.chain_build.specs.Linear.{output_range}
 use Rattle.chain_build.specs.Output.{AddsOutputs}
 use Rattle.chain_build.specs.Shapes.{HaveLinearItems}
 use Rattle.chain_build.proofs.ShapesSoFar.{shapes-outputs}
 use Rattle.chain_build.proofs.CostsSoFar.{HasCosts-outputs}
-use Rattle.chain_build.proofs.Counting.{AreApart-before}
 use Rattle.chain_build.proofs.Grown.{IsGrown-trans}
 use Rattle.chain_build.proofs.OutputRange.{RangesOver, ranges-over}
 use Rattle.chain_build.proofs.Samples.{the_samples, samples-inside}
 
 -- ---- which plans are built
 
-built-filter : (taps : List ℤ) (gs : List Group) → AreBuiltGroups gs → AreBuiltGroups (join_filter taps Parallel gs)
-built-filter taps [] h = (refl, tt)
-built-filter taps (Fir None None down ∷ gs) h = (refl, h.1)
-built-filter taps (Fir None (Some f) down ∷ gs) h = (refl, h)
-built-filter taps (Fir (Some u) None down ∷ gs) h = (refl, h)
-built-filter taps (Fir (Some u) (Some f) down ∷ gs) h = (refl, h)
-built-filter taps (DownCic factor stages delay ∷ gs) h = (refl, h)
-built-filter taps (UpCic factor stages delay ∷ gs) h = (refl, h)
-built-filter taps (Rounding shift mode ∷ gs) h = (refl, h)
-built-filter taps (Clipping bits ∷ gs) h = (refl, h)
+built-filter : (taps : List ℤ) (form : Form) (gs : List Group) → is_built_form form ≡ true → AreBuiltGroups gs → AreBuiltGroups (join_filter taps form gs)
+built-filter taps form [] is h = (is, tt)
+built-filter taps form (Fir None None down ∷ gs) is h = (is, h.1)
+built-filter taps form (Fir None (Some f) down ∷ gs) is h = (is, h)
+built-filter taps form (Fir (Some u) None down ∷ gs) is h = (is, h)
+built-filter taps form (Fir (Some u) (Some f) down ∷ gs) is h = (is, h)
+built-filter taps form (DownCic factor stages delay ∷ gs) is h = (is, h)
+built-filter taps form (UpCic factor stages delay ∷ gs) is h = (is, h)
+built-filter taps form (Rounding shift mode ∷ gs) is h = (is, h)
+built-filter taps form (Clipping bits ∷ gs) is h = (is, h)
+
+both : (a b : Bool) → (a && b) ≡ true → (a ≡ true) × (b ≡ true)
+both true b e = (refl, e)
+both false b e = absurd (cc)
 
 built-up : (factor : ℕ) (gs : List Group) → AreBuiltGroups gs → AreBuiltGroups (join_up factor gs)
 built-up factor [] h = (refl, tt)
@@ -71,11 +75,7 @@ pub built-groups : (es : List Element) → are_built es ≡ true → AreBuiltGro
 built-groups [] h = tt
 built-groups (Up factor ∷ es) h = built-up (size factor) (groups es) (built-groups es h)
 built-groups (Down factor ∷ es) h = (refl, built-groups es h)
-built-groups (Filter taps Parallel ∷ es) h = built-filter taps (groups es) (built-groups es h)
-built-groups (Filter taps Symmetric ∷ es) h = absurd (cc)
-built-groups (Filter taps HalfBand ∷ es) h = absurd (cc)
-built-groups (Filter taps (Folded slots) ∷ es) h = absurd (cc)
-built-groups (Filter taps (Distributed group) ∷ es) h = absurd (cc)
+built-groups (Filter taps form ∷ es) h = let parts = both (is_built_form form) (are_built es) h in built-filter taps form (groups es) parts.0 (built-groups es parts.1)
 built-groups (CicDown factor stages delay ∷ es) h = (tt, built-groups es h)
 built-groups (CicUp factor stages delay ∷ es) h = (tt, built-groups es h)
 built-groups (Round shift HalfUp ∷ es) h = (refl, built-groups es h)
@@ -87,11 +87,7 @@ pub built-unclipped : (es : List Element) → are_built es ≡ true → has_clip
 built-unclipped [] h = refl
 built-unclipped (Up factor ∷ es) h = built-unclipped es h
 built-unclipped (Down factor ∷ es) h = built-unclipped es h
-built-unclipped (Filter taps Parallel ∷ es) h = built-unclipped es h
-built-unclipped (Filter taps Symmetric ∷ es) h = absurd (cc)
-built-unclipped (Filter taps HalfBand ∷ es) h = absurd (cc)
-built-unclipped (Filter taps (Folded slots) ∷ es) h = absurd (cc)
-built-unclipped (Filter taps (Distributed group) ∷ es) h = absurd (cc)
+built-unclipped (Filter taps form ∷ es) h = built-unclipped es (both (is_built_form form) (are_built es) h).1
 built-unclipped (CicDown factor stages delay ∷ es) h = built-unclipped es h
 built-unclipped (CicUp factor stages delay ∷ es) h = built-unclipped es h
 built-unclipped (Round shift HalfUp ∷ es) h = built-unclipped es h
@@ -213,8 +209,8 @@ module _ {n1 n2 n3 : NetView} {node : Node} {stream : Stream} {outputs : Outputs
   }
 
   -- the outputs cost nothing
-  pub chain_costs : {costs : List GroupCost} → IsWellFormed n3.cells → (AreApart n2.cells → HasCosts (groups elements) costs n2.cells) → HasCosts (groups elements) costs n3.cells
-  chain_costs formed of_groups = HasCosts-outputs outs.grown outs.adders outs.named (of_groups (AreApart-before outs.grown.extends (record { apart = formed.apart })))
+  pub chain_costs : {costs : List GroupCost} → HasCosts (groups elements) costs n2.cells → HasCosts (groups elements) costs n3.cells
+  chain_costs of_groups = HasCosts-outputs (chained.grown.bound (bound1 a)) outs.grown outs.adders outs.named of_groups
 
   -- what the outputs add may stand in a linear group
   pub chain_shapes : HaveLinearItems 1 (groups elements) n2.cells → HaveLinearItems 1 (groups elements) n3.cells

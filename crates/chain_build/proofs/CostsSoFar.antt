@@ -1,7 +1,7 @@
 -- What the groups that were added so far cost, and which nodes the linear ones have.
 use Rattle.std.proofs.Common.{◌≡◌, ℕ, suc, true, ◌+◌, ◌<◌, ◌≤◌, ◌⊎◌, List, [], ◌∷◌, ◌++◌, length, Some, slice_get, refl, sym, ◌∙◌, ap, subst, arith, inl, inr, append_assoc, append-nil}
-use Rattle.std.proofs.lemmas.Bool.{cases_lt}
-use Rattle.mr_values.specs.Timing.{Group, Fir, DownCic, UpCic, Rounding, Clipping}
+use Rattle.std.proofs.lemmas.Bool.{cases_lt, cases_eq}
+use Rattle.mr_values.specs.Timing.{Group}
 use Rattle.net_graph.specs.declared.cell.Cell.{Cell}
 use Rattle.net_graph.specs.declared.cell.Stream.{Stream}
 use Rattle.net_graph.specs.declared.name.Name.{Name}
@@ -11,31 +11,26 @@ use Rattle.net_graph.specs.Count.{adders_in, windows_in, tables_in}
 use Rattle.net_graph.specs.Grow.{Grows}
 use Rattle.net_graph.specs.WellFormed.{IsBound, IsFree}
 use Rattle.net_graph.specs.Depth.{IsShallow, IsUntouched}
+use Rattle.net_graph.specs.Tables.{HasTables}
 use Rattle.net_graph.proofs.CellLemmas.{cell_at-there, same_cell}
 use Rattle.net_graph.proofs.DepthLemmas.{IsShallow-same}
+use Rattle.net_graph.proofs.TableLemmas.{HasTables-same, HasTables-nameless}
 use Rattle.pipeline_balance.specs.Costs.{SameAdders, SameNamed}
-use Rattle.stage_law.specs.Facts.{StageFacts}
 use Rattle.stage_law.specs.Realises.{Realises}
 use Rattle.stage_law.specs.Streams.{Streams}
 use Rattle.chain_build.specs.declared.groups.Added.{Added}
 use Rattle.chain_build.specs.declared.groups.GroupCost.{GroupCost}
-use Rattle.chain_build.specs.Added.{HasFacts, IsGroupAdded, IsGrown, AreNameless}
-use Rattle.chain_build.specs.GroupCosts.{IsCostOf, AreCostsOf, AreUngrouped, AreApart, HasCosts}
+use Rattle.chain_build.specs.Added.{IsGroupAdded, IsGrown, AreNameless}
+use Rattle.chain_build.specs.GroupCosts.{IsCostOf, AreCostsOf, AreUngrouped, HasCosts}
 use Rattle.pipeline_balance.specs.Shapes.{HasLinearItems}
 use Rattle.stage_law.specs.Kinds.{has_linear_shape}
 use Rattle.chain_build.specs.Built.{IsBuiltGroup, kind_of}
 use Rattle.chain_build.specs.Shapes.{HaveLinearItems}
 use Rattle.chain_build.proofs.ShapesSoFar.{shape_of, HasLinearItems-none, HasLinearItems-other, same_shapes, shapes_with}
-use Rattle.chain_build.proofs.GroupFacts.{CostsAs, costs-as}
-use Rattle.chain_build.proofs.Counting.{AreApart-before, HasSame, HasSame-grows, no_adders, no_windows, no_tables}
-
--- the tables of the built groups
-tables_of : (g : Group) (facts : StageFacts) → HasFacts g facts → facts.tables ≡ 0
-tables_of (Fir up filter down) facts has = ap (λ (f : StageFacts). f.tables) has
-tables_of (DownCic factor stages delay) facts has = ap (λ (f : StageFacts). f.tables) has
-tables_of (UpCic factor stages delay) facts has = ap (λ (f : StageFacts). f.tables) has
-tables_of (Rounding shift mode) facts has = ap (λ (f : StageFacts). f.tables) has
-tables_of (Clipping bits) facts has = absurd has
+use Rattle.chain_build.proofs.FormFacts.{CostsAs}
+use Rattle.chain_build.proofs.GroupFacts.{costs-as}
+use Rattle.plan_check.specs.Forms.{Flow}
+use Rattle.chain_build.proofs.Counting.{HasSame, HasSame-grows, no_adders, no_windows, no_tables}
 
 after_none : (n : ℕ) → 0 + n ≡ n
 after_none n = omega arith
@@ -78,8 +73,8 @@ pub record CostsSoFar (gs : List Group) (net : List Cell) (rest : List Group) (c
   pub count : number ≡ 1 + length front
   pub bound : IsBound net
   pub below : (place : ℕ) (cell : Cell) → slice_get net place ≡ Some cell → cell.group < number
-  pub known : AreApart net → AreCostsOf 1 front costs net
-  pub tables : AreApart net → (group : ℕ) → tables_in group net ≡ 0
+  pub known : AreCostsOf 1 front costs net
+  pub tables : HasTables net
   pub shapes : HaveLinearItems 1 front net
 
 pub CostsSoFar-start : (gs : List Group) (net : List Cell) → IsBound net → AreUngrouped net → ((name : Name) → IsFree net name) → CostsSoFar gs net gs [] 1
@@ -89,8 +84,8 @@ CostsSoFar-start gs net bound ungrouped nameless = record {
   count = omega arith;
   bound = bound;
   below = λ place cell at. let e = ungrouped.each cell place at in omega (arith, e);
-  known = λ apart. tt;
-  tables = λ apart group. no_tables net group (λ name data_kind same. nameless name);
+  known = tt;
+  tables = HasTables-nameless net nameless;
   shapes = tt;
 }
 
@@ -103,16 +98,16 @@ CostsSoFar-first gs rest old net costs rest_is net_is costs_are bound ungrouped 
 
 module _ {gs : List Group} {net : List Cell} {rest : List Group} {costs : List GroupCost} {number : ℕ} (so : CostsSoFar gs net rest costs number) {g : Group} {others : List Group} (split : rest ≡ g ∷ others)
     (free : (name : Name) → (name.kind ≡ Control → ⊥) → number ≤ name.group → IsFree net name) where
-  pub CostsSoFar-next : IsBuiltGroup g → {new : NetView} (mid : NetView) (streams : Streams) (last : Stream) (added : Added) → mid ≡ record { cells = net; group = number } → IsGroupAdded g streams mid new last added
+  pub CostsSoFar-next : IsBuiltGroup g → {new : NetView} {flow : Flow} (mid : NetView) (streams : Streams) (last : Stream) (added : Added) → mid ≡ record { cells = net; group = number } → IsGroupAdded g flow streams mid new last added
       → CostsSoFar gs new.cells others (costs ++ added.cost ∷ []) (number + 1)
-  CostsSoFar-next built {new} mid streams last added is adds = record {
+  CostsSoFar-next built {new} {flow} mid streams last added is adds = record {
     front = so.front ++ g ∷ [];
     parts = append_assoc so.front (g ∷ []) others ∙ ap (λ (r : List Group). so.front ++ r) (sym split) ∙ so.parts;
     count = let e = so.count in let l = longer so.front in omega (arith, e, l);
     bound = grows.bound bound_mid;
     below = below_new;
     known = known_new;
-    tables = λ apart group. tables_new apart group;
+    tables = tables_new;
     shapes = shapes_new;
   }
     where
@@ -152,15 +147,9 @@ module _ {gs : List Group} {net : List Cell} {rest : List Group} {costs : List G
               of (inl z) = omega (arith, z)
               of (inr own) = let s = same_group in omega (arith, own, s)
 
-      apart_mid : AreApart new.cells → AreApart mid.cells
-      apart_mid apart = AreApart-before grows.extends apart
-
-      apart_net : AreApart new.cells → AreApart net
-      apart_net apart = subst AreApart same_cells (apart_mid apart)
-
       -- another group has what it had
-      same_in : AreApart new.cells → (k : ℕ) → (k ≡ number → ⊥) → HasSame k net new.cells
-      same_in apart k other = subst (λ (cells : List Cell). HasSame k cells new.cells) same_cells (HasSame-grows grows r.names bound_mid apart k (λ e. other (e ∙ same_group)))
+      same_in : (k : ℕ) → (k ≡ number → ⊥) → HasSame k net new.cells
+      same_in k other = subst (λ (cells : List Cell). HasSame k cells new.cells) same_cells (HasSame-grows grows bound_mid k (λ e. other (e ∙ same_group)))
 
       free_own : (name : Name) → (name.kind ≡ Control → ⊥) → name.group ≡ number → IsFree net name
       free_own name data_kind own = free name data_kind (omega (arith, own))
@@ -187,7 +176,7 @@ module _ {gs : List Group} {net : List Cell} {rest : List Group} {costs : List G
       }
 
       stands : CostsAs g adds.facts
-      stands = costs-as g adds.facts built adds.has_facts
+      stands = costs-as g flow adds.facts built adds.has_facts
 
       own_cost : IsCostOf g number new.cells added.cost
       own_cost = record {
@@ -201,14 +190,14 @@ module _ {gs : List Group} {net : List Cell} {rest : List Group} {costs : List G
         shallow = subst (λ (k : ℕ). IsShallow new.cells k) same_group (r.shallow bound_mid new_group);
       }
 
-      known_new : AreApart new.cells → AreCostsOf 1 (so.front ++ g ∷ []) (costs ++ added.cost ∷ []) new.cells
-      known_new apart =
+      known_new : AreCostsOf 1 (so.front ++ g ∷ []) (costs ++ added.cost ∷ []) new.cells
+      known_new =
           costs_with 1 so.front costs g added.cost new.cells
-          (same_costs 1 so.front costs net new.cells (omega arith) (λ k low high. same_in apart k (λ e. let c = so.count in omega (arith, c, e, high))) (so.known (apart_net apart)))
+          (same_costs 1 so.front costs net new.cells (omega arith) (λ k low high. same_in k (λ e. let c = so.count in omega (arith, c, e, high))) so.known)
           (subst (λ (n : ℕ). IsCostOf g n new.cells added.cost) so.count own_cost)
 
       shapes_own : has_linear_shape (kind_of g) ≡ true → HasLinearItems new.cells number
-      shapes_own shape = subst (λ (k : ℕ). HasLinearItems new.cells k) same_group (r.shapes (shape_of g adds.facts adds.has_facts shape) (HasLinearItems-none mid.cells mid.group new_group))
+      shapes_own shape = subst (λ (k : ℕ). HasLinearItems new.cells k) same_group (r.shapes (shape_of g flow adds.facts adds.has_facts shape) (HasLinearItems-none mid.cells mid.group new_group))
 
       shapes_before : (k : ℕ) → 1 ≤ k → k < number → HasLinearItems net k → HasLinearItems new.cells k
       shapes_before k some less h =
@@ -219,23 +208,33 @@ module _ {gs : List Group} {net : List Cell} {rest : List Group} {costs : List G
           shapes_with 1 so.front g new.cells (same_shapes 1 so.front net new.cells (λ k low high h. shapes_before k low (let c = so.count in omega (arith, c, high)) h) so.shapes)
           (λ shape. subst (λ (k : ℕ). HasLinearItems new.cells k) so.count (shapes_own shape))
 
-      tables_new : AreApart new.cells → (group : ℕ) → tables_in group new.cells ≡ 0
-      tables_new apart group = by (cases_lt group number) (cases_lt number group)
-        where
-          other : (group ≡ number → ⊥) → tables_in group new.cells ≡ 0
-          other apart_from = (same_in apart group apart_from).tables ∙ so.tables (apart_net apart) group
+      tables_mid : HasTables mid.cells
+      tables_mid = subst (λ (cells : List Cell). HasTables cells) (sym same_cells) so.tables
 
-          by : (group < number) ⊎ (number ≤ group) → (number < group) ⊎ (group ≤ number) → tables_in group new.cells ≡ 0
-          by (inl less) any = other (λ e. omega (arith, e, less))
-          by (inr most) (inl more) = other (λ e. omega (arith, e, more))
-          by (inr most) (inr least) = let same : group ≡ number = omega (arith, most, least) in ap (λ (k : ℕ). tables_in k new.cells) same ∙ tables_own ∙ tables_of g adds.facts adds.has_facts
+      -- a stage without tables adds none
+      tables_same : adds.facts.tables ≡ 0 → (group : ℕ) → tables_in group new.cells ≡ tables_in group mid.cells
+      tables_same none group = by (cases_eq group mid.group)
+        where
+          by : (group ≡ mid.group) ⊎ (group ≡ mid.group → ⊥) → tables_in group new.cells ≡ tables_in group mid.cells
+          by (inl own) = subst (λ (k : ℕ). tables_in k new.cells ≡ tables_in k mid.cells) (sym own) (let e = r.tables in omega (arith, e, none))
+          by (inr other) = (HasSame-grows grows bound_mid group other).tables
+
+      tables_new : HasTables new.cells
+      tables_new = by (cases_eq adds.facts.tables 0)
+        where
+          positive : (adds.facts.tables ≡ 0 → ⊥) → 0 < adds.facts.tables
+          positive some = elim (cases_lt 0 adds.facts.tables) [ inl more ↦ more | inr none ↦ absurd (some (omega (arith, none))) ]
+
+          by : (adds.facts.tables ≡ 0) ⊎ (adds.facts.tables ≡ 0 → ⊥) → HasTables new.cells
+          by (inl none) = HasTables-same grows.extends bound_mid (tables_same none) tables_mid
+          by (inr some) = r.own_tables (positive some) bound_mid tables_mid
 
 -- ---- the end
 
-pub CostsSoFar-end : {gs rest : List Group} {net : List Cell} {costs : List GroupCost} {number : ℕ} → CostsSoFar gs net rest costs number → rest ≡ [] → AreApart net → HasCosts gs costs net
-CostsSoFar-end {gs} {rest} {net} {costs} so none apart = record {
-  costs_are = subst (λ (hs : List Group). AreCostsOf 1 hs costs net) (sym (append-nil so.front) ∙ ap (λ (r : List Group). so.front ++ r) (sym none) ∙ so.parts) (so.known apart);
-  no_tables = record { none = so.tables apart };
+pub CostsSoFar-end : {gs rest : List Group} {net : List Cell} {costs : List GroupCost} {number : ℕ} → CostsSoFar gs net rest costs number → rest ≡ [] → HasCosts gs costs net
+CostsSoFar-end {gs} {rest} {net} {costs} so none = record {
+  costs_are = subst (λ (hs : List Group). AreCostsOf 1 hs costs net) (sym (append-nil so.front) ∙ ap (λ (r : List Group). so.front ++ r) (sym none) ∙ so.parts) so.known;
+  tables = so.tables;
 }
 
 pub shapes-end : {gs rest : List Group} {net : List Cell} {costs : List GroupCost} {number : ℕ} → CostsSoFar gs net rest costs number → rest ≡ [] → HaveLinearItems 1 gs net
@@ -243,13 +242,13 @@ shapes-end {gs} {rest} {net} so none = subst (λ (hs : List Group). HaveLinearIt
 
 -- ---- the outputs change no cost, and bring no adder
 
-pub HasCosts-outputs : {gs : List Group} {costs : List GroupCost} {old new : List Cell} → IsGrown old new → SameAdders old new → SameNamed old new → HasCosts gs costs old → HasCosts gs costs new
-HasCosts-outputs {gs} {costs} {old} {new} grown adders named has = record {
+pub HasCosts-outputs : {gs : List Group} {costs : List GroupCost} {old new : List Cell} → IsBound old → IsGrown old new → SameAdders old new → SameNamed old new → HasCosts gs costs old → HasCosts gs costs new
+HasCosts-outputs {gs} {costs} {old} {new} bound grown adders named has = record {
   costs_are = same_costs 1 gs costs old new (omega arith) (λ k low high. record {
     adders = adders.each k;
     windows = named.windows k;
     tables = named.tables k;
     shallow = λ some s. IsShallow-same old new k grown.extends (grown.bound s.bound) (adders.each k some) s;
   }) has.costs_are;
-  no_tables = record { none = λ group. named.tables group ∙ has.no_tables.none group };
+  tables = HasTables-same grown.extends bound named.tables has.tables;
 }

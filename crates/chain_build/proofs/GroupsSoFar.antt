@@ -142,11 +142,11 @@ module _ {count : ℕ} {old new : NetView} {low high : ℤ} {from : Stream} {out
     | inl less ↦
         let was = cell_at old.cells place in
         let before = cell_at-there old.cells place less in
-        let kept = outs.grows.extends.keeps place was before in
+        let kept = outs.lengthens.extends.keeps place was before in
         let same : cell.group ≡ was.group = ap (λ (c : Cell). c.group) (sym (same_cell kept.cell cell _ kept.there at)) ∙ kept.group in
         let within = so.nodes place was before in
         omega (arith, same, within)
-    | inr after ↦ elim (outs.grows.added place cell after at).of_group [ inl none ↦ omega (arith, none) | inr added ↦ let own = so.own in omega (arith, added, own) ]
+    | inr after ↦ elim (outs.lengthens.added place cell after at).of_group [ inl none ↦ omega (arith, none) | inr added ↦ let own = so.own in omega (arith, added, own) ]
   ]
 
   name_within : (place : ℕ) (cell : Cell) (name : Name) → slice_get new.cells place ≡ Some cell → cell.name ≡ Some name → name.group ≤ count

@@ -7,10 +7,11 @@ use Rattle.net_graph.specs.declared.name.Name.{Name}
 use Rattle.net_graph.specs.declared.name.NameKind.{NameKind}
 use Rattle.net_graph.specs.declared.name.NameKind.TheVariants.{Control, Window, Copy, PreAdder, Register as Other, Table, Output, Valid}
 use Rattle.net_graph.specs.Cells.{NetView, cell_at}
-use Rattle.net_graph.specs.Grow.{Grows}
+use Rattle.net_graph.specs.Grow.{Lengthens, Grows}
 use Rattle.net_graph.specs.Name.{is_input}
 use Rattle.net_graph.specs.WellFormed.{IsFree}
 use Rattle.net_graph.proofs.CellLemmas.{cell_at-there, same_cell}
+use Rattle.net_graph.proofs.GrowLemmas.{lengthened}
 use Rattle.net_graph.proofs.NetLemmas.{Extends-refl, Extends-trans}
 use Rattle.pipeline_balance.specs.Numbered.{name_of}
 use Rattle.stage_law.specs.Realises.{IsFreeIn}
@@ -24,8 +25,11 @@ IsGrown-refl cells = record {
   no_input = λ place cell after there. absurd (let within = slice_get_within cells place cell there in omega arith);
 }
 
+pub IsGrown-lengthens : {old new : NetView} → Lengthens old new → IsGrown old.cells new.cells
+IsGrown-lengthens g = record { extends = g.extends; bound = g.bound; closed = g.closed; no_input = λ place cell after there. (g.added place cell after there).no_input }
+
 pub IsGrown-grows : {old new : NetView} → Grows old new → IsGrown old.cells new.cells
-IsGrown-grows g = record { extends = g.extends; bound = g.bound; closed = g.closed; no_input = λ place cell after there. (g.added place cell after there).no_input }
+IsGrown-grows g = IsGrown-lengthens (lengthened g)
 
 pub IsGrown-trans : (a b c : List Cell) → IsGrown a b → IsGrown b c → IsGrown a c
 IsGrown-trans a b c p q = record {

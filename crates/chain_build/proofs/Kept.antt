@@ -60,15 +60,13 @@ module _ {width : ℕ} {elements : List Element} (linear : AreLinear elements) (
       let row = table.rows class (subst (λ (n : ℕ). class < n) table.classes below) in
       subst (λ (r : Response). length r.weights ≤ (extent elements).reach) (sym row) (weights-within_reach elements (pos class) linear))
 
-  soon-by : (peak : Peak) (index : ℕ) → index ≤ needed_for ranges.table ranges.longest peak.sum.behind (length peak.sum.weights.items) + whole_of ranges.table peak.class → index ≤ soon_after elements (weights_of peak.sum) peak.class
+  soon-by : (peak : Peak) (index : ℕ) → index ≤ needed_for ranges.table ranges.longest (length (weights_of peak.sum)) + whole_of ranges.table peak.class → index ≤ soon_after elements (weights_of peak.sum) peak.class
   soon-by peak index soon =
-      let zeros = peak.sum.behind in
-      let factors = length peak.sum.weights.items in
+      let values = length (weights_of peak.sum) in
       let m = peak.class.modulus in
-      let count : length (weights_of peak.sum) ≡ zeros + factors = omega (arith, length-append (replicate zeros (pos 0)) peak.sum.weights.items, length-replicate zeros (pos 0)) in
-      soon-than elements (weights_of peak.sum) peak.class ranges.longest index zeros factors linear longest-within count
-      (subst (λ (n : ℕ). index ≤ zeros + factors + (full_cycle elements).classes * (ranges.longest / n + 1) + finer_classes (full_cycle elements).classes m * m) table.step
-      (subst (λ (n : ℕ). index ≤ zeros + factors + n * (ranges.longest / ranges.table.step + 1) + finer_classes n m * m) table.classes soon))
+      soon-than elements (weights_of peak.sum) peak.class ranges.longest index values linear longest-within refl
+      (subst (λ (n : ℕ). index ≤ values + (full_cycle elements).classes * (ranges.longest / n + 1) + finer_classes (full_cycle elements).classes m * m) table.step
+      (subst (λ (n : ℕ). index ≤ values + n * (ranges.longest / ranges.table.step + 1) + finer_classes n m * m) table.classes soon))
 
   pub end-by : (peak : Peak) (xs : List ℤ) (index : ℕ) (value : ℤ) → IsEndReached ranges.table ranges.width ranges.longest peak.sum peak.class peak.high xs index value → IsEndBy width elements (weights_of peak.sum) peak.class peak.high xs index value
   end-by peak xs index value r = record {

@@ -1,6 +1,8 @@
 pub mod Walk
 pub mod Spans
 pub mod Grown
+pub mod FormFacts
+pub mod FilterAdded
 pub mod GroupFacts
 pub mod Prefixes
 pub mod Pace

@@ -34,7 +34,7 @@ use Rattle.chain_build.specs.LinearNet.{IsRegisterIn, IsLinearName, IsListed, Ha
 use Rattle.chain_build.specs.LinearOn.{IsRegisterOn, HasGroupRegisters, output_registers}
 use Rattle.chain_build.specs.Output.{AddsOutputs}
 use Rattle.chain_build.proofs.ChainLemmas.{empty}
-use Rattle.chain_build.proofs.GroupFacts.{filter-one}
+use Rattle.chain_build.proofs.FormFacts.{filter-one}
 use Rattle.chain_build.proofs.OutputRange.{RangesOver}
 use Rattle.chain_build.proofs.RegisterOn.{IsRegisterOn-later}
 use Rattle.chain_build.proofs.RegistersSoFar.{parted, listed-front, listed-back}

@@ -1,209 +1,58 @@
--- The output register and its bit, call by call.
-use Rattle.std.proofs.Common.{◌≡◌, ◌⊎◌, inl, inr, ℕ, suc, ◌+◌, ◌*◌, ◌<◌, ◌≤◌, ◌^◌, List, length, refl, sym, ◌∙◌, ap, arith, Option, Some, None, slice_get, subst, ℤ, pos, ◌*ℤ◌, Bool, false, not, ◌&&◌}
-use Rattle.std.specs.Prelude.{slice_set}
-use Rattle.std.proofs.lemmas.Bool.{cases_eq}
-use Rattle.std.proofs.lemmas.Int.{ints}
-use Rattle.std.proofs.lemmas.Option.{same_Some}
-use Rattle.mr_values.specs.Sequence.{Sequence}
-use Rattle.mr_values.specs.Width.{FitsWidth, IsLeastWidth}
-use Rattle.net_graph.specs.declared.cell.Cell.{Cell}
+-- The output register and the bit that is shown, one after the other.
+use Rattle.std.proofs.Common.{◌≡◌, inl, inr, ℕ, ◌+◌, ap, ℤ}
 use Rattle.net_graph.specs.declared.cell.Node.{Node}
 use Rattle.net_graph.specs.declared.cell.Stream.{Stream}
-use Rattle.net_graph.specs.declared.cell.Item.TheVariants.{Shl}
 use Rattle.net_graph.specs.declared.name.Name.{Name}
-use Rattle.net_graph.specs.declared.name.NameKind.{NameKind}
-use Rattle.net_graph.specs.declared.name.NameKind.TheVariants.{Control, Output, Valid}
-use Rattle.net_graph.specs.Cells.{NetView, cell_at}
-use Rattle.net_graph.specs.Name.{is_control, is_control_name, is_input}
+use Rattle.net_graph.specs.declared.name.NameKind.TheVariants.{Output, Valid}
+use Rattle.net_graph.specs.Cells.{NetView}
 use Rattle.net_graph.specs.WellFormed.{IsFree}
-use Rattle.net_graph.specs.Count.{total, adder, window, table, windows_in, tables_in, is_window, is_table, has_kind, one_if}
-use Rattle.net_graph.specs.Grow.{Extends, Grows, Adds, IsNamedAs, named_as}
-use Rattle.net_graph.specs.Cut.{Cut, IsCut, cut_all, cut_control}
-use Rattle.net_graph.specs.Run.{Values, IsRun}
+use Rattle.net_graph.specs.Grow.{Lengthens}
 use Rattle.net_graph.proofs.CutLemmas.{IsCut-all, IsCut-control}
-use Rattle.net_graph.proofs.Lists.{slice_get-set_same, slice_get-set_other}
-use Rattle.net_graph.proofs.CellLemmas.{cell_at-is, cell_at-there}
-use Rattle.net_graph.proofs.CountLemmas.{adders_plain, total_set}
-use Rattle.net_graph.proofs.NetLemmas.{Extends-trans, cell_of_added}
-use Rattle.net_graph.proofs.GrowLemmas.{Grows-refl, Grows-trans, Grows-named, IsOfControl-later}
-use Rattle.pipeline_balance.specs.Numbered.{IsRegister, LeavesFree, name_of}
-use Rattle.pipeline_balance.specs.Gate.{IsTickOf, IsCounter, AddsGate, Carries, HasTaken, IsTaken, taken_value}
-use Rattle.pipeline_balance.specs.Costs.{SameAdders, SameNamed}
-use Rattle.pipeline_balance.specs.Tree.{AddsNode}
-use Rattle.pipeline_balance.proofs.CostLemmas.{SameAdders-refl, SameAdders-trans, SameAdders-plain, SameNamed-refl, SameNamed-trans, SameNamed-adds, nothing_more, other_kind}
-use Rattle.pipeline_balance.proofs.NumberedLemmas.{width-later, IsRegister-later, LeavesFree-refl}
-use Rattle.pipeline_balance.proofs.PairLemmas.{AddsNode-adds}
-use Rattle.pipeline_balance.proofs.ShapeLemmas.{KeepsShapes-refl, KeepsShapes-trans, KeepsShapes-adds, KeepsShapes-named}
-use Rattle.pipeline_balance.proofs.TakenLemmas.{IsBitOf-later, taken}
-use Rattle.chain_build.specs.Output.{IsCutTo, TakesOver, IsKeptWhole, AddsOutputs}
-use Rattle.chain_build.proofs.Grown.{IsGrown-grows, IsGrown-trans}
-
-pub IsCutTo-same : (net : NetView) (node : Node) (width : ℕ) → node.place < length net.cells → (cell_at net.cells node.place).width ≡ width → IsCutTo net net node width node
-IsCutTo-same net node width inside same = record {
-  grows = Grows-refl net;
-  names = LeavesFree-refl net.cells (λ name. ⊥);
-  adders = SameAdders-refl net.cells;
-  named = SameNamed-refl net.cells;
-  linear = KeepsShapes-refl net.cells;
-  within = inside;
-  wide = same;
-  keeps = λ cut law inputs values run t fits. refl;
-}
-
-times_one : (z : ℤ) → z *ℤ pos (2 ^ 0) ≡ z
-times_one z = omega (arith, ints)
-
-pub IsCutTo-shl : {old new : NetView} {from to : Node} {width : ℕ} → 1 ≤ old.group → 1 ≤ width → Adds old new to width (Shl from 0) → IsCutTo old new from width to
-IsCutTo-shl {old} {new} {from} {to} {width} data_group wide a =
-    let node : AddsNode old new 0 to (λ cut v t. cut false width (v t from.place *ℤ pos (2 ^ 0))) =
-    AddsNode-adds 0 (λ cut v t. cut false width (v t from.place *ℤ pos (2 ^ 0))) data_group a refl (adders_plain old.group a refl ∙ omega arith) (λ cut law x v r o t. o t) in
-    record {
-      grows = node.grows;
-      names = node.names;
-      adders = SameAdders-plain a refl;
-      named = SameNamed-adds a;
-      linear = KeepsShapes-adds a tt;
-      within = node.computes.within;
-      wide = ap (λ (c : Cell). c.width) (cell_at-is new.cells to.place _ (cell_of_added a));
-      keeps = λ cut law inputs values run t fits.
-          node.computes.holds cut law inputs values run t
-          ∙ ap (cut false width) (times_one (values t from.place))
-          ∙ law.fitting false width (values t from.place) wide fits;
-    }
-
-pub counter_nameless : {old new : NetView} {ticks : ℕ → Type 0} {bit : Node} → IsCounter old new ticks bit → (cell_at new.cells bit.place).name ≡ None
-counter_nameless {old} {new} {ticks} {bit} b = ap (λ (c : Cell). c.name) (cell_at-is new.cells bit.place b.shape.cell b.shape.there) ∙ b.nameless
+use Rattle.net_graph.specs.Cut.{cut_all, cut_control}
+use Rattle.net_graph.proofs.GrowLemmas.{Lengthens-trans}
+use Rattle.net_outputs.specs.Register.{AddsOutputRegister}
+use Rattle.net_outputs.specs.Shown.{AddsShownBit}
+use Rattle.pipeline_balance.specs.Gate.{IsTickOf}
+use Rattle.pipeline_balance.specs.Numbered.{name_of}
+use Rattle.pipeline_balance.proofs.CostLemmas.{SameAdders-trans, SameNamed-trans}
+use Rattle.pipeline_balance.proofs.NumberedLemmas.{IsRegister-later}
+use Rattle.pipeline_balance.proofs.ShapeLemmas.{KeepsShapes-trans}
+use Rattle.chain_build.specs.Output.{AddsOutputs}
+use Rattle.chain_build.proofs.Grown.{IsGrown-lengthens}
 
 valid_apart : name_of 0 Valid 0 ≡ name_of 0 Output 0 → ⊥
 valid_apart e = let k : Valid ≡ Output = ap (λ (x : Name). x.kind) e in absurd (cc)
 
--- the output's name is free on the way
-pub output_free : {n0 n1 n2 : NetView} {from : Stream} {node : Node} {gate : Option Node} {width : ℕ} → IsCutTo n0 n1 from.node width node → AddsGate n1 n2 from.period from.offset gate → IsFree n0.cells (name_of 0 Output 0) → IsFree n2.cells (name_of 0 Output 0)
-output_free cut_node g f = g.names.free (name_of 0 Output 0) (λ e. absurd (cc)) (cut_node.names.free (name_of 0 Output 0) (λ none. none) f)
+-- the name of the bit is free behind the register
+pub valid_free : {n0 n3 : NetView} {from : Stream} {out_q : Node} {low high : ℤ} → AddsOutputRegister low high n0 n3 from out_q → IsFree n0.cells (name_of 0 Valid 0) → IsFree n3.cells (name_of 0 Valid 0)
+valid_free r f = r.names.free (name_of 0 Valid 0) (λ touched. elim touched [ inl same ↦ valid_apart same | inr control ↦ absurd (cc) ]) f
 
-module _ {n0 n1 n2 n3 n4 : NetView} {from : Stream} {node out_q out_valid : Node} {gate : Option Node} {width : ℕ}
-    (cut_node : IsCutTo n0 n1 from.node width node)
-    (g : AddsGate n1 n2 from.period from.offset gate)
-    (t : (let end : Stream = record { node = node; period = from.period; offset = from.offset } in IsTaken n2 n3 end (name_of 0 Output 0) out_q))
-    (b : IsCounter n3 n4 (IsTickOf from.period (from.offset + 1)) out_valid) where
-  pub valid_free : IsFree n0.cells (name_of 0 Valid 0) → IsFree n4.cells (name_of 0 Valid 0)
-  valid_free f =
-      b.names.free (name_of 0 Valid 0) (λ e. absurd (cc))
-      (t.names.free (name_of 0 Valid 0) valid_apart (g.names.free (name_of 0 Valid 0) (λ e. absurd (cc)) (cut_node.names.free (name_of 0 Valid 0) (λ none. none) f)))
+module _ {n0 n3 n5 : NetView} {from : Stream} {out_q out_valid : Node} {low high : ℤ}
+    (r : AddsOutputRegister low high n0 n3 from out_q) (s : AddsShownBit (IsTickOf from.period (from.offset + 1)) n3 n5 out_valid) where
+  lengthens : Lengthens n0 n5
+  lengthens = Lengthens-trans r.lengthens s.lengthens
 
-  module _ {n5 : NetView} (low high : ℤ) (positive : 1 ≤ from.period) (least : IsLeastWidth low high width) (n : IsNamedAs n4 n5 out_valid (name_of 0 Valid 0)) where
-    inside : out_valid.place < length n4.cells
-    inside = b.bit_of.within
-
-    stays : is_control (named_as (cell_at n4.cells out_valid.place) (name_of 0 Valid 0)) ≡ is_control (cell_at n4.cells out_valid.place)
-    stays = ap (λ (o : Option Name). is_control_name o (cell_at n4.cells out_valid.place).group && not (is_input (cell_at n4.cells out_valid.place).item)) (sym (counter_nameless b))
-
-    named_grows : Grows n4 n5
-    named_grows = Grows-named inside (counter_nameless b) stays n
-
-    x4 : Extends n3.cells n5.cells
-    x4 = Extends-trans n3.cells n4.cells n5.cells b.grows.extends named_grows.extends
-
-    x2 : Extends n2.cells n5.cells
-    x2 = Extends-trans n2.cells n3.cells n5.cells t.grows.extends x4
-
-    x1 : Extends n1.cells n5.cells
-    x1 = Extends-trans n1.cells n2.cells n5.cells g.grows.extends x2
-
-    end_width : (cell_at n2.cells node.place).width ≡ width
-    end_width = width-later n1.cells n2.cells node.place g.grows.extends cut_node.within ∙ cut_node.wide
-
-    valid_is : cell_at n5.cells out_valid.place ≡ named_as (cell_at n4.cells out_valid.place) (name_of 0 Valid 0)
-    valid_is = cell_at-is n5.cells out_valid.place _ (subst (λ (cells : List Cell). slice_get cells out_valid.place ≡ Some (named_as (cell_at n4.cells out_valid.place) (name_of 0 Valid 0))) (sym n.cells) (slice_get-set_same n4.cells out_valid.place _ inside))
-
-    takes : TakesOver n5.cells from width out_q
-    takes cut law inputs values v fits run carried k =
-        let at : ℕ = from.offset + k * from.period in
-        let tick : from.offset + 1 + k * from.period ≡ suc at = omega arith in
-        let taken : HasTaken from.period from.offset (suc k) (suc at) = (omega arith, omega arith) in
-        let fit : FitsWidth width (values at from.node.place) = subst (FitsWidth width) (sym (carried k)) (fits k) in
-        ap (λ (s : ℕ). values s out_q.place) tick
-        ∙ t.holds.holds cut law inputs values (x4.runs cut law inputs values run) (suc at) (suc k) taken
-        ∙ cut_node.keeps cut law inputs values (x1.runs cut law inputs values run) at fit
-        ∙ carried k
-
-    -- what the register's stream shows is what is carried, in each cut
-    shown_is : (cut : Cut) → IsCut cut → (inputs : ℕ → ℤ) (values : Values) (v : Sequence) → ((k : ℕ) → FitsWidth width (v (pos k))) → IsRun cut n5.cells inputs values → Carries values from v
-        → (k : ℕ) → values (from.offset + k * from.period) node.place ≡ v (pos k)
-    shown_is cut law inputs values v fits run carried k =
-        let fit : FitsWidth width (values (from.offset + k * from.period) from.node.place) = subst (FitsWidth width) (sym (carried k)) (fits k) in
-        cut_node.keeps cut law inputs values (x1.runs cut law inputs values run) (from.offset + k * from.period) fit ∙ carried k
-
-    held : (cut : Cut) → IsCut cut → (inputs : ℕ → ℤ) (values : Values) → IsRun cut n5.cells inputs values → (s n : ℕ) → HasTaken from.period from.offset n s
-        → values s out_q.place ≡ taken_value (λ k. values (from.offset + k * from.period) node.place) n 0
-    held cut law inputs values run s n has = t.holds.holds cut law inputs values (x4.runs cut law inputs values run) s n has
-
-    kept : IsKeptWhole n5.cells from width out_q
-    kept inputs values whole v fits run uncut carried carried_whole s =
-        let some = taken from.period from.offset s positive in
-        let same : (k : ℕ) → values (from.offset + k * from.period) node.place ≡ whole (from.offset + k * from.period) node.place =
-        λ k. shown_is cut_all IsCut-all inputs values v fits run carried k ∙ sym (shown_is cut_control IsCut-control inputs whole v fits uncut carried_whole k) in
-        held cut_all IsCut-all inputs values run s some.0 some.1
-        ∙ ap (λ (f : ℕ → ℤ). taken_value f some.0 0) (λ i k. same k i)
-        ∙ sym (held cut_control IsCut-control inputs whole uncut s some.0 some.1)
-
-    -- of names in a stage's group none is taken
-    leaves_free : LeavesFree n0.cells n5.cells (λ name. (name.group ≡ 0) ⊎ (name.kind ≡ Control))
-    leaves_free = record {
+  pub AddsOutputs-both : AddsOutputs low high n0 n5 from (record { out_q = out_q; out_valid = out_valid })
+  AddsOutputs-both = record {
+    lengthens = lengthens;
+    grown = IsGrown-lengthens lengthens;
+    width = r.width;
+    least = r.least;
+    group = r.group;
+    register = IsRegister-later s.lengthens.extends r.is_register;
+    carries = λ cut law inputs values v fits run carried. r.carries cut law inputs values v fits (s.lengthens.extends.runs cut law inputs values run) carried;
+    kept_whole = λ inputs values whole v fits run uncut carried carried_whole.
+        r.kept_whole inputs values whole v fits (s.lengthens.extends.runs cut_all IsCut-all inputs values run) (s.lengthens.extends.runs cut_control IsCut-control inputs whole uncut) carried carried_whole;
+    names = record {
       free = λ name other f.
-          free_named name (λ e. other (inl (ap (λ (x : Name). x.group) e)))
-          (b.names.free name (λ c. other (inr c)) (t.names.free name (λ e. other (inl (ap (λ (x : Name). x.group) e))) (g.names.free name (λ c. other (inr c)) (cut_node.names.free name (λ none. none) f))));
-    }
-      where
-        free_named : (name : Name) → (name ≡ name_of 0 Valid 0 → ⊥) → IsFree n4.cells name → IsFree n5.cells name
-        free_named name other f = record { none = λ place cell there is. by place cell is (cases_eq place out_valid.place) (subst (λ (cells : List Cell). slice_get cells place ≡ Some cell) n.cells there) }
-          where
-            by : (place : ℕ) (cell : Cell) → cell.name ≡ Some name → (place ≡ out_valid.place) ⊎ (place ≡ out_valid.place → ⊥) → slice_get (slice_set n4.cells out_valid.place (named_as (cell_at n4.cells out_valid.place) (name_of 0 Valid 0))) place ≡ Some cell → ⊥
-            by place cell is (inl here) there =
-                let at : slice_get (slice_set n4.cells out_valid.place (named_as (cell_at n4.cells out_valid.place) (name_of 0 Valid 0))) out_valid.place ≡ Some cell =
-                subst (λ (k : ℕ). slice_get (slice_set n4.cells out_valid.place (named_as (cell_at n4.cells out_valid.place) (name_of 0 Valid 0))) k ≡ Some cell) here there in
-                let same : named_as (cell_at n4.cells out_valid.place) (name_of 0 Valid 0) ≡ cell = same_Some _ _ (sym (slice_get-set_same n4.cells out_valid.place _ inside) ∙ at) in
-                other (same_Some _ _ (sym (ap (λ (c : Cell). c.name) same ∙ is)))
-            by place cell is (inr apart) there = f.none place cell (sym (slice_get-set_other n4.cells out_valid.place place _ apart) ∙ there) is
-
-    here : slice_get n4.cells out_valid.place ≡ Some (cell_at n4.cells out_valid.place)
-    here = cell_at-there n4.cells out_valid.place inside
-
-    valid_adders : SameAdders n4.cells n5.cells
-    valid_adders = record { each = λ group some. ap (total (adder group)) n.cells ∙ total_set (adder group) n4.cells out_valid.place (cell_at n4.cells out_valid.place) (named_as (cell_at n4.cells out_valid.place) (name_of 0 Valid 0)) here refl }
-
-    -- a node without a name is no window's and no table
-    unnamed : (is : NameKind → Bool) (group : ℕ) → one_if (has_kind is group (cell_at n4.cells out_valid.place).name) ≡ 0
-    unnamed is group = ap (λ (o : Option Name). one_if (has_kind is group o)) (counter_nameless b)
-
-    valid_named : SameNamed n4.cells n5.cells
-    valid_named = record {
-      windows = λ group. ap (total (window group)) n.cells ∙ total_set (window group) n4.cells out_valid.place (cell_at n4.cells out_valid.place) (named_as (cell_at n4.cells out_valid.place) (name_of 0 Valid 0)) here (other_kind is_window group (name_of 0 Valid 0) refl ∙ sym (unnamed is_window group));
-      tables = λ group. ap (total (table group)) n.cells ∙ total_set (table group) n4.cells out_valid.place (cell_at n4.cells out_valid.place) (named_as (cell_at n4.cells out_valid.place) (name_of 0 Valid 0)) here (other_kind is_table group (name_of 0 Valid 0) refl ∙ sym (unnamed is_table group));
-    }
-
-    taken_named : SameNamed n2.cells n3.cells
-    taken_named = record {
-      windows = λ group. t.windows group ∙ nothing_more (windows_in group n2.cells) (one_if (has_kind is_window group (Some (name_of 0 Output 0)))) (other_kind is_window group (name_of 0 Output 0) refl);
-      tables = λ group. t.tables group ∙ nothing_more (tables_in group n2.cells) (one_if (has_kind is_table group (Some (name_of 0 Output 0)))) (other_kind is_table group (name_of 0 Output 0) refl);
-    }
-
-    pub AddsOutputs-named : AddsOutputs low high n0 n5 from (record { out_q = out_q; out_valid = out_valid })
-    AddsOutputs-named = record {
-      grows = Grows-trans cut_node.grows (Grows-trans g.grows (Grows-trans t.grows (Grows-trans b.grows named_grows)));
-      grown = IsGrown-trans n0.cells n4.cells n5.cells (IsGrown-grows (Grows-trans cut_node.grows (Grows-trans g.grows (Grows-trans t.grows b.grows)))) (IsGrown-grows named_grows);
-      width = width;
-      least = least;
-      group = n2.group;
-      register = subst (λ (u : ℕ). IsRegister n5.cells out_q.place n2.group (name_of 0 Output 0) u) end_width (IsRegister-later x4 t.register);
-      carries = takes;
-      kept_whole = kept;
-      names = leaves_free;
-      shown = ap (λ (c : Cell). c.name) valid_is;
-      shown_width = ap (λ (c : Cell). c.width) valid_is ∙ ap (λ (c : Cell). c.width) (cell_at-is n4.cells out_valid.place b.shape.cell b.shape.there) ∙ b.shape.same_width;
-      shown_control = IsOfControl-later n4.cells n5.cells out_valid.place named_grows.extends (record { cell = b.shape.cell; there = b.shape.there; control = b.shape.same_control });
-      bit = IsBitOf-later b.bit_of named_grows.extends;
-      adders = SameAdders-trans cut_node.adders (SameAdders-trans g.adders (SameAdders-trans t.adders (SameAdders-trans b.adders valid_adders)));
-      named = SameNamed-trans cut_node.named (SameNamed-trans g.named (SameNamed-trans taken_named (SameNamed-trans b.named valid_named)));
-      linear = KeepsShapes-trans cut_node.linear (KeepsShapes-trans g.linear (KeepsShapes-trans t.linear (KeepsShapes-trans b.linear (KeepsShapes-named named_grows.extends inside n))));
-    }
+          s.names.free name (λ touched. elim touched [ inl same ↦ other (inl (ap (λ (x : Name). x.group) same)) | inr control ↦ other (inr control) ])
+          (r.names.free name (λ touched. elim touched [ inl same ↦ other (inl (ap (λ (x : Name). x.group) same)) | inr control ↦ other (inr control) ]) f);
+    };
+    shown = s.shown;
+    shown_width = s.shown_width;
+    shown_control = s.shown_control;
+    bit = s.bit_of;
+    adders = SameAdders-trans r.adders s.adders;
+    named = SameNamed-trans r.named s.named;
+    linear = KeepsShapes-trans r.linear s.linear;
+  }

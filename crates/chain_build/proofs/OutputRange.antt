@@ -19,7 +19,7 @@ use Rattle.width_extreme.specs.Prefix.{IsStream}
 use Rattle.chain_build.specs.Built.{has_rounding}
 use Rattle.chain_build.specs.Linear.{each_index, output_range, prefix_range}
 use Rattle.chain_build.proofs.ExactPrefixes.{prefix-tells}
-use Rattle.chain_build.proofs.GroupFacts.{filter-one}
+use Rattle.chain_build.proofs.FormFacts.{filter-one}
 use Rattle.chain_build.proofs.Spans.{HasRoom-span}
 use Rattle.chain_build.proofs.RangeLemmas.{same_range}
 use Rattle.chain_build.proofs.SameStreams.{same_streams, streams_same}

@@ -21,20 +21,20 @@ use Rattle.chain_build.specs.declared.extremes.LinearPeak.{LinearPeak}
 use Rattle.chain_build.specs.declared.groups.Added.{Added}
 use Rattle.chain_build.specs.Added.{IsGroupAdded}
 use Rattle.chain_build.specs.Built.{kind_of, rounds, has_rounding}
-use Rattle.chain_build.specs.Linear.{LinearRegister, linear, linear_from, prefix_range, group_registers}
+use Rattle.chain_build.specs.Linear.{LinearRegister, linear, linear_from, prefix_range, register_of, group_registers}
 use Rattle.chain_build.specs.Peaks.{AreKept, IsKeptPeak, AddsPeaks, ArePeaksOf, HasGroupPeaks, keeps}
-use Rattle.chain_build.specs.Prefixes.{streams_before, elements_before}
+use Rattle.chain_build.specs.Prefixes.{flow_before, streams_before, elements_before}
 use Rattle.chain_build.proofs.GroupFacts.{facts-is, some-down}
 use Rattle.chain_build.proofs.ExactPrefixes.{prefix-linear, prefix-tells}
 use Rattle.chain_build.proofs.Pace.{pace_all, at_once, extent-pace}
 use Rattle.chain_build.proofs.PeakPlaces.{peaks-of, ArePeaksOf-none, ArePeaksOf-append, ArePeaksOf-later}
 use Rattle.chain_build.proofs.Prefixes.{sizes, sizes-more, sizes-within, after-more, prefixed}
 use Rattle.chain_build.proofs.RegisterLemmas.{needed-member}
-use Rattle.chain_build.proofs.RegistersSoFar.{coming, coming-none, linear_from-more, linear_from-none, own_registers}
+use Rattle.chain_build.proofs.RegistersSoFar.{coming, coming-none, linear_from-more, linear_from-none, own_registers, stream_at}
 use Rattle.chain_build.proofs.Roundings.{has_rounding-more}
-use Rattle.chain_build.proofs.SoFar.{SoFar, SoFar-all, SoFar-none, balanced, head_walk, is_built_head}
+use Rattle.chain_build.proofs.SoFar.{SoFar, SoFar-all, SoFar-none, balanced, head_walk, flow_is, is_built_head}
 use Rattle.chain_build.proofs.SoonRead.{reads-group}
-use Rattle.chain_build.proofs.StepLemmas.{TellsOwn, linear_fir, tells_own}
+use Rattle.chain_build.proofs.StepLemmas.{TellsOwn, unlinear, tells_own}
 use Rattle.chain_build.proofs.Taking.{exact_streams, taken-is}
 
 pub record PeaksSoFar (width ticks : ℕ) (whole : List Element) (cells : List Cell) (front rest : List Group) (s : Timed) (number : ℕ) (peaks : List LinearPeak) : Type 0 where
@@ -107,7 +107,7 @@ PeaksSoFar-end {width} {ticks} {whole} {cells} {rest} {number} {peaks} so none =
 
 module _ {plan : Plan} {old net mid new : NetView} {from last : Stream} {rest : List Element} {fact : GroupFacts} {left : List GroupFacts} {number : ℕ} {front : List Group} {g : Group} {others : List Element} {added : Added} {before after_it : List LinearPeak}
     (accepted : IsAccepted plan) (so : SoFar (size plan.width) (size plan.ticks) plan.elements old net from last rest (fact ∷ left) number front) (split : IsSplit rest g others) (rounded : Bool) (rounded_is : rounded ≡ has_rounding front)
-    (mid_is : mid ≡ record { cells = net.cells; group = number }) (adds : IsGroupAdded g (streams_before rounded (size plan.width) (elements_before plan fact) fact.span_lo fact.span_hi) mid new last added)
+    (mid_is : mid ≡ record { cells = net.cells; group = number }) (adds : IsGroupAdded g (flow_before last.period fact) (streams_before rounded (size plan.width) (elements_before plan fact) fact.span_lo fact.span_hi) mid new last added)
     (peaks : AddsPeaks (keeps rounded g) (size plan.width) (elements_before plan fact) last (fact.first - 1) added.emitted.peaks.items before after_it) where
   abbrev W : ℕ
   W = size plan.width
@@ -129,14 +129,14 @@ module _ {plan : Plan} {old net mid new : NetView} {from last : Stream} {rest : 
 
   kept : has_rounding front ≡ false → is_linear (kind_of g) ≡ true → ArePeaksOf W (size plan.ticks) plan.elements new.cells (own_registers W plan.elements number (sizes front) so.stream g) peaks.own
   kept none linear =
-      let tells : TellsOwn g adds.facts = tells_own g adds.facts (is_built_head so split) adds.has_facts linear in
+      let tells : TellsOwn g (flow_before last.period fact) adds.facts = tells_own g (flow_before last.period fact) adds.facts adds.has_facts linear in
       let exact = exact_streams accepted so split rounded rounded_is none in
       let own_linear = prefix-linear plan.elements front (groups rest) (passes_of plan accepted).limits.elements so.parts none in
       let ranges : TellsRanges (streams_before rounded W (elements_before plan fact) fact.span_lo fact.span_hi) (prefix_range W at_front) =
       subst (λ (s : Streams). TellsRanges s (prefix_range W at_front)) (sym exact) (prefix-tells at_front W own_linear) in
       let registers = adds.realises.registers tells.linear in
-      let list : adds.facts.registers last.period ≡ group_registers g so.stream.period = tells.same last.period ∙ ap (group_registers g) so.period in
-      let told : map (named_peak new.cells) added.emitted.peaks.items ≡ peaks_of (prefix_range W at_front) number (group_registers g so.stream.period) =
+      let list : adds.facts.registers last.period ≡ group_registers g so.stream = ap adds.facts.registers so.period ∙ tells.same so.stream (flow_is so split) in
+      let told : map (named_peak new.cells) added.emitted.peaks.items ≡ peaks_of (prefix_range W at_front) number (group_registers g so.stream) =
       registers.told (prefix_range W at_front) ranges ∙ ap (λ (n : ℕ). peaks_of (prefix_range W at_front) n (adds.facts.registers last.period)) (ap (λ (n : NetView). n.group) mid_is) ∙ ap (peaks_of (prefix_range W at_front) number) list in
       let taken = taken-is accepted so split in
       let each : AreKept (IsKeptPeak W at_front last (sizes front)) added.emitted.peaks.items peaks.own =
@@ -148,30 +148,26 @@ module _ {plan : Plan} {old net mid new : NetView} {from last : Stream} {rest : 
       let offset = so.offset in
       let pace : last.period * (extent at_front).up ≡ size plan.ticks * (extent at_front).down =
       balanced (size plan.ticks) last.period front (extent at_front) so.period so.balance (extent-pace at_front ∙ ap (λ (gs : List Group). pace_all gs at_once) (prefixed plan.elements front (groups rest) so.parts)) in
-      peaks-of W (size plan.ticks) plan.elements (sizes front) so.stream.period so.stream.offset last (sizes-within plan.elements front (groups rest) so.parts) own_linear (sym so.period) (sym so.offset) pace (omega (arith, long, period)) (omega (arith, early, offset)) new.cells number (group_registers g so.stream.period) added.emitted.peaks.items peaks.own told each
+      peaks-of W (size plan.ticks) plan.elements (sizes front) so.stream.period so.stream.offset last (sizes-within plan.elements front (groups rest) so.parts) own_linear (sym so.period) (sym so.offset) pace (omega (arith, long, period)) (omega (arith, early, offset)) new.cells number (group_registers g so.stream) added.emitted.peaks.items peaks.own told each
       (λ i r s there needed.
       let m = needed-member (prefix_range W at_front) r.sums s (nat_eq (bits_of (prefix_range W at_front) r.sums) 1) needed in
       let timely = registers.timely i m.place r s (ap (λ (rs : List StageRegister). slice_get rs i) list ∙ there) m.there in
-      let own = facts-is g adds.facts (is_built_head so split) adds.has_facts in
+      let own = facts-is g (flow_before last.period fact) adds.facts (is_built_head so split) adds.fits adds.has_facts in
       let some = some-down g adds.facts own split.within in
-      reads-group plan at_front front accepted none own_linear (prefixed plan.elements front (groups rest) so.parts) g (groups others) (so.parts ∙ ap (λ (gs : List Group). front ++ gs) split.parts) adds.facts adds.has_facts own.up own.down some linear last.period s timely)
+      reads-group plan at_front front accepted none own_linear (prefixed plan.elements front (groups rest) so.parts) g (groups others) (so.parts ∙ ap (λ (gs : List Group). front ++ gs) split.parts) (flow_before last.period fact) adds.facts (is_built_head so split) adds.fits adds.has_facts own.up own.down some linear last.period s timely)
 
-  own_are : (b : Bool) → has_rounding front ≡ b → (h : Group) → g ≡ h → ArePeaksOf W (size plan.ticks) plan.elements new.cells (added_registers (has_rounding front) W plan.elements number (sizes front) so.stream g) peaks.own
-  own_are true is h same = unkept (ap (λ (b : Bool). keeps b g) (rounded_is ∙ is)) (ap (λ (b : Bool). added_registers b W plan.elements number (sizes front) so.stream g) is)
-  own_are false is (Fir u f d) same =
-      subst (λ (b : Bool). ArePeaksOf W (size plan.ticks) plan.elements new.cells (added_registers b W plan.elements number (sizes front) so.stream g) peaks.own) (sym is)
-      (kept is (linear_fir g u f d same (is_built_head so split)))
-  own_are false is (DownCic a b c) same =
-      unkept (keeps_is is ∙ ap (λ (k : Group). is_linear (kind_of k)) same) (ap (λ (b : Bool). added_registers b W plan.elements number (sizes front) so.stream g) is ∙ ap (own_registers W plan.elements number (sizes front) so.stream) same)
-  own_are false is (UpCic a b c) same =
-      unkept (keeps_is is ∙ ap (λ (k : Group). is_linear (kind_of k)) same) (ap (λ (b : Bool). added_registers b W plan.elements number (sizes front) so.stream g) is ∙ ap (own_registers W plan.elements number (sizes front) so.stream) same)
-  own_are false is (Rounding k m) same =
-      unkept (keeps_is is ∙ ap (λ (k : Group). is_linear (kind_of k)) same) (ap (λ (b : Bool). added_registers b W plan.elements number (sizes front) so.stream g) is ∙ ap (own_registers W plan.elements number (sizes front) so.stream) same)
-  own_are false is (Clipping b) same =
-      unkept (keeps_is is ∙ ap (λ (k : Group). is_linear (kind_of k)) same) (ap (λ (b : Bool). added_registers b W plan.elements number (sizes front) so.stream g) is ∙ ap (own_registers W plan.elements number (sizes front) so.stream) same)
+  own_are : (rounds_before linear : Bool) → has_rounding front ≡ rounds_before → is_linear (kind_of g) ≡ linear
+      → ArePeaksOf W (size plan.ticks) plan.elements new.cells (added_registers (has_rounding front) W plan.elements number (sizes front) so.stream g) peaks.own
+  own_are true linear is own = unkept (ap (λ (b : Bool). keeps b g) (rounded_is ∙ is)) (ap (λ (b : Bool). added_registers b W plan.elements number (sizes front) so.stream g) is)
+  own_are false true is own =
+      subst (λ (b : Bool). ArePeaksOf W (size plan.ticks) plan.elements new.cells (added_registers b W plan.elements number (sizes front) so.stream g) peaks.own) (sym is) (kept is own)
+  own_are false false is own =
+      unkept (keeps_is is ∙ own)
+      (ap (λ (b : Bool). added_registers b W plan.elements number (sizes front) so.stream g) is
+      ∙ ap (λ (rs : List StageRegister). map (register_of W number (stream_at plan.elements (sizes front) so.stream)) rs) (unlinear g so.stream own))
 
   peak_step : IsPeakStep W (size plan.ticks) plan.elements net.cells new.cells front g so.stream number before after_it
-  peak_step = record { extends = extends; own = peaks.own; is = peaks.is; are = own_are (has_rounding front) refl g refl }
+  peak_step = record { extends = extends; own = peaks.own; is = peaks.is; are = own_are (has_rounding front) (is_linear (kind_of g)) refl refl }
 
   pub peaks_next : PeaksSoFar W (size plan.ticks) plan.elements net.cells front (groups rest) (after_all front (input W (size plan.ticks))) number before
       → PeaksSoFar W (size plan.ticks) plan.elements new.cells (front ++ g ∷ []) (groups others) (after_all (front ++ g ∷ []) (input W (size plan.ticks))) (number + 1) after_it

@@ -48,7 +48,7 @@ stream_at whole taken s = record { elements = take taken whole; period = s.perio
 
 -- the registers of a group that doesn't round, and those of the groups behind it
 abbrev pub own_registers : ℕ → List Element → ℕ → ℕ → Timed → Group → List LinearRegister
-own_registers width whole number taken s g = map (register_of width number (stream_at whole taken s)) (group_registers g s.period)
+own_registers width whole number taken s g = map (register_of width number (stream_at whole taken s)) (group_registers g s)
 
 pub linear_from-more : (width : ℕ) (whole : List Element) (number taken : ℕ) (s : Timed) (g : Group) (gs : List Group) → rounds g ≡ false
     → linear_from width whole number taken s (g ∷ gs) ≡ own_registers width whole number taken s g ++ linear_from width whole (number + 1) (taken + size_of g) (after g s) gs

@@ -110,9 +110,9 @@ few-samples es form class count index linear reads soon few =
     omega (arith, few, most, round, turn, reach)
 
 -- as soon as is said of a shorter reach
-pub soon-than : (es : List Element) (form : List ℤ) (class : Class) (longest index before factors : ℕ) → AreLinear es → longest ≤ (extent es).reach → length form ≡ before + factors
-    → index ≤ before + factors + (full_cycle es).classes * (longest / (full_cycle es).step + 1) + finer_classes (full_cycle es).classes class.modulus * class.modulus → index ≤ soon_after es form class
-soon-than es form class longest index before factors linear short count soon =
+pub soon-than : (es : List Element) (form : List ℤ) (class : Class) (longest index values : ℕ) → AreLinear es → longest ≤ (extent es).reach → length form ≡ values
+    → index ≤ values + (full_cycle es).classes * (longest / (full_cycle es).step + 1) + finer_classes (full_cycle es).classes class.modulus * class.modulus → index ≤ soon_after es form class
+soon-than es form class longest index values linear short count soon =
     let step = (full_cycle es).step in
     let law = prefix-has es linear in
     let fewer : longest / step ≤ (extent es).reach / step = le-div (longest / step) (extent es).reach step law.has_step (omega (arith, whole-below longest step, short)) in

@@ -1,7 +1,7 @@
 -- The nodes of linear groups while a net grows.
 use Rattle.std.proofs.Common.{◌≡◌, ℕ, suc, ◌+◌, ◌<◌, ◌≤◌, true, List, [], ◌∷◌, ◌++◌, length, Option, sym, ◌∙◌, ap, subst, arith, inl, inr}
 use Rattle.std.proofs.lemmas.Bool.{cases_lt}
-use Rattle.mr_values.specs.Timing.{Group, Fir, DownCic, UpCic, Rounding, Clipping}
+use Rattle.mr_values.specs.Timing.{Group, Fir, DownCic, UpCic, Rounding, Clipping, wide, taps_of, form_of}
 use Rattle.net_graph.specs.declared.cell.Cell.{Cell}
 use Rattle.net_graph.specs.declared.cell.Item.{Item}
 use Rattle.net_graph.specs.Cells.{NetView, cell_at}
@@ -14,16 +14,20 @@ use Rattle.pipeline_balance.proofs.ShapeLemmas.{IsLinearItem-later}
 use Rattle.stage_law.specs.Facts.{StageFacts}
 use Rattle.stage_law.specs.Kinds.{has_linear_shape}
 use Rattle.chain_build.specs.Added.{HasFacts}
+use Rattle.chain_build.proofs.FormFacts.{fir-kind}
+use Rattle.plan_check.specs.Forms.{Flow}
+use Rattle.std.specs.Prelude.{unwrap_or}
 use Rattle.chain_build.specs.Built.{kind_of}
 use Rattle.chain_build.specs.Shapes.{HaveLinearItems}
 
 -- a group that is built in the shape of a linear one is such a stage
-pub shape_of : (g : Group) (facts : StageFacts) → HasFacts g facts → has_linear_shape (kind_of g) ≡ true → has_linear_shape facts.kind ≡ true
-shape_of (Fir up filter down) facts has shape = ap (λ (f : StageFacts). has_linear_shape f.kind) has
-shape_of (DownCic factor stages delay) facts has shape = ap (λ (f : StageFacts). has_linear_shape f.kind) has
-shape_of (UpCic factor stages delay) facts has shape = ap (λ (f : StageFacts). has_linear_shape f.kind) has
-shape_of (Rounding shift mode) facts has shape = absurd (cc)
-shape_of (Clipping bits) facts has shape = absurd (cc)
+pub shape_of : (g : Group) (flow : Flow) (facts : StageFacts) → HasFacts g flow facts → has_linear_shape (kind_of g) ≡ true → has_linear_shape facts.kind ≡ true
+shape_of (Fir up filter down) flow facts has shape =
+    ap (λ (f : StageFacts). has_linear_shape f.kind) has ∙ ap has_linear_shape (fir-kind (form_of filter) (taps_of filter) (unwrap_or up 1) (unwrap_or down 1) (wide flow.low flow.high)) ∙ shape
+shape_of (DownCic factor stages delay) flow facts has shape = ap (λ (f : StageFacts). has_linear_shape f.kind) has
+shape_of (UpCic factor stages delay) flow facts has shape = ap (λ (f : StageFacts). has_linear_shape f.kind) has
+shape_of (Rounding shift mode) flow facts has shape = absurd (cc)
+shape_of (Clipping bits) flow facts has shape = absurd (cc)
 
 pub HasLinearItems-none : (cells : List Cell) (group : ℕ) → IsUntouched cells group → HasLinearItems cells group
 HasLinearItems-none cells group none = record { each = λ place cell at own. absurd (none.none place cell at own) }

@@ -1,5 +1,5 @@
 -- The groups that were added so far, and those that are left.
-use Rattle.std.proofs.Common.{◌≡◌, ℕ, ◌+◌, ◌*◌, ◌^◌, ◌<◌, ◌≤◌, ◌⊎◌, false, List, [], ◌∷◌, ◌++◌, append_assoc, append-nil, length, take, drop, get_or, refl, sym, ◌∙◌, ap, arith, subst, inl, inr, ℤ, pos, negsuc, ◌≤ℤ◌, None}
+use Rattle.std.proofs.Common.{◌≡◌, ℕ, ◌+◌, ◌*◌, ◌^◌, ◌<◌, ◌≤◌, ◌⊎◌, false, List, [], ◌∷◌, ◌++◌, append_assoc, append-nil, length, take, drop, get_or, refl, sym, ◌∙◌, ap, arith, subst, inl, inr, ℤ, pos, negsuc, ◌≤ℤ◌, None, Some, Bool, true, cond}
 use Rattle.std.specs.Prelude.{All, unsigned_abs}
 use Rattle.std.proofs.Math.Path.{fun_ext}
 use Rattle.std.proofs.lemmas.Int.{ints}
@@ -21,10 +21,13 @@ use Rattle.net_graph.proofs.CutLemmas.{IsCut-all, IsCut-control}
 use Rattle.pipeline_balance.specs.Gate.{Carries}
 use Rattle.plan_check.specs.declared.facts.Facts.{Facts}
 use Rattle.plan_check.specs.declared.facts.GroupFacts.{GroupFacts}
-use Rattle.plan_check.specs.Accepted.{rates_test, peaks_test, costs_test, no_tally, facts_of, group_facts, IsAccepted, AreFacts}
+use Rattle.plan_check.specs.Accepted.{rates_test, peaks_test, fits_test, costs_test, no_tally, facts_of, group_facts, IsAccepted, AreFacts}
 use Rattle.plan_check.specs.Amounts.{gain}
 use Rattle.plan_check.specs.Costs.{Tally, tally_after}
-use Rattle.plan_check.specs.Groups.{size_of, IsSplit}
+use Rattle.plan_check.specs.Forms.{Flow, flow_of, flow_after, group_fits, fit_test}
+use Rattle.plan_check.specs.Groups.{size_of, first_failing, IsSplit}
+use Rattle.plan_check.specs.declared.fault.PlanFault.{PlanFault}
+use Rattle.plan_check.proofs.Options.{none_of}
 use Rattle.impulse_phase.specs.Reach.{Extent, extent}
 use Rattle.plan_laws.specs.Laws.{IsBetween}
 use Rattle.plan_laws.proofs.Passes.{passes_of}
@@ -36,6 +39,7 @@ use Rattle.width_extreme.specs.Prefix.{IsStream}
 use Rattle.chain_build.specs.declared.groups.Added.{Added}
 use Rattle.chain_build.specs.Built.{IsBuiltGroup, AreBuiltGroups, ArePlainGroups, has_rounding}
 use Rattle.chain_build.specs.Added.{IsTaking, IsGroupAdded, IsGrown, AreNameless, IsChained}
+use Rattle.chain_build.specs.Prefixes.{flow_before}
 use Rattle.chain_build.proofs.Walk.{IsWalk, factors_some, cancel, walk_rate, walk_next, walk_start, walk_most, walk_gain, walk_end, period-whole}
 use Rattle.chain_build.proofs.Pace.{Pace, pace_all, at_once, pace-more, extent-pace, balance-more}
 use Rattle.chain_build.proofs.Prefixes.{sizes, sizes-more, after-more, apply-more, chain-first}
@@ -55,6 +59,7 @@ pub record SoFar (width ticks : ℕ) (whole : List Element) (old net : NetView) 
   pub first_is : first ≡ 1 + sizes front
   pub done_is : (v : Sequence) → done v ≡ apply_groups front v
   pub walk : IsWalk ticks first tally (groups rest) stream
+  pub fits : first_failing fit_test flow_after first (flow_of stream) (groups rest) ≡ None
   pub limits : All IsWithinLimits rest
   pub built : AreBuiltGroups (groups rest)
   pub zero_in : IsBetween stream.low stream.high (pos 0)
@@ -76,8 +81,8 @@ pub record SoFar (width ticks : ℕ) (whole : List Element) (old net : NetView) 
   pub names : (name : Name) → (name.kind ≡ Control → ⊥) → (number ≤ name.group) ⊎ (name.group ≡ 0) → IsFree net.cells name
 
 pub SoFar-start : (width ticks : ℕ) (whole : List Element) (old net : NetView) (from : Stream) (left : List GroupFacts) → from.node.place < length old.cells → AreNameless old.cells → from.offset ≡ 0 → from.period ≡ ticks → 2 ≤ width → width ≤ 64 → 1 ≤ ticks → ticks ≤ 65536 → All IsWithinLimits whole → length whole ≤ 32
-    → rates_test ticks (groups whole) ≡ None → peaks_test width (groups whole) ≡ None → costs_test width ticks (groups whole) ≡ None → AreBuiltGroups (groups whole) → left ≡ group_facts 1 (input width ticks) (groups whole) → net ≡ record { cells = old.cells; group = 1 } → SoFar width ticks whole old net from from whole left 1 []
-SoFar-start width ticks whole old net from left inside nameless offset period wide narrow some most limits few rates peaks costs built facts is = record {
+    → rates_test ticks (groups whole) ≡ None → peaks_test width (groups whole) ≡ None → fits_test width ticks (groups whole) ≡ None → costs_test width ticks (groups whole) ≡ None → AreBuiltGroups (groups whole) → left ≡ group_facts 1 (input width ticks) (groups whole) → net ≡ record { cells = old.cells; group = 1 } → SoFar width ticks whole old net from from whole left 1 []
+SoFar-start width ticks whole old net from left inside nameless offset period wide narrow some most limits few rates peaks fits costs built facts is = record {
   done = λ v. v;
   stream = input width ticks;
   first = 1;
@@ -87,6 +92,7 @@ SoFar-start width ticks whole old net from left inside nameless offset period wi
   first_is = refl;
   done_is = λ v. refl;
   walk = walk_start width ticks (groups whole) wide narrow some most rates peaks costs;
+  fits = fits;
   limits = limits;
   built = built;
   zero_in = zero_input width;
@@ -110,6 +116,10 @@ SoFar-start width ticks whole old net from left inside nameless offset period wi
   where
     zero_input : (w : ℕ) → IsBetween (input w ticks).low (input w ticks).high (pos 0)
     zero_input w = record { least = omega (arith, ints); greatest = omega (arith, ints) }
+
+fit_passes : (fault : PlanFault) (fits : Bool) → cond fits None (Some fault) ≡ None → fits ≡ true
+fit_passes fault true e = refl
+fit_passes fault false e = absurd (cc)
 
 -- ---- the next group
 
@@ -135,6 +145,17 @@ module _ {width ticks : ℕ} {whole : List Element} {old net : NetView} {from la
 
   pub span_high : fact.span_hi ≡ so.stream.high
   span_high = ap (λ (f : GroupFacts). f.span_hi) fact_is
+
+  -- the flow of the stream before it
+  pub flow_is : flow_of so.stream ≡ flow_before last.period fact
+  flow_is i = record { period = (sym so.period) i; low = (sym span_low) i; high = (sym span_high) i }
+
+  head_fits : first_failing fit_test flow_after so.first (flow_of so.stream) (g ∷ groups others) ≡ None
+  head_fits = subst (λ (gs : List Group). first_failing fit_test flow_after so.first (flow_of so.stream) gs ≡ None) split.parts so.fits
+
+  -- the form of the next group fits it
+  pub is_fitting : group_fits g (flow_before last.period fact) ≡ true
+  is_fitting = subst (λ (f : Flow). group_fits g f ≡ true) flow_is (fit_passes _ (group_fits g (flow_of so.stream)) (none_of _ _ head_fits).0)
 
   pub taking : IsTaking g last.period
   taking = subst (IsTaking g) (sym so.period) (record { positive = head_walk.positive; long = head_walk.long; whole = (walk_rate head_walk).whole })
@@ -176,11 +197,11 @@ module _ {width ticks : ℕ} {whole : List Element} {old net : NetView} {from la
   pub above : pos 0 ≤ℤ fact.span_hi
   above = subst (λ (z : ℤ). pos 0 ≤ℤ z) (sym span_high) so.zero_in.greatest
 
-  pub SoFar-next : {new : NetView} (mid : NetView) (added : Added) (streams : Streams) → ((v : Sequence) → AreSamples width v → streams (so.done v)) → mid ≡ record { cells = net.cells; group = number } → IsGroupAdded g streams mid new last added
+  pub SoFar-next : {new : NetView} (mid : NetView) (added : Added) (streams : Streams) → ((v : Sequence) → AreSamples width v → streams (so.done v)) → mid ≡ record { cells = net.cells; group = number } → IsGroupAdded g (flow_before last.period fact) streams mid new last added
       → SoFar width ticks whole old new from added.emitted.stream others left (number + 1) (front ++ g ∷ [])
   SoFar-next {new} mid added streams holds is adds =
       let r = adds.realises in
-      let f = facts-is g adds.facts is_built_head adds.has_facts in
+      let f = facts-is g (flow_before last.period fact) adds.facts is_built_head adds.fits adds.has_facts in
       let same_cells : mid.cells ≡ net.cells = ap (λ (n : NetView). n.cells) is in
       let same_group : mid.group ≡ number = ap (λ (n : NetView). n.group) is in
       let grown : IsGrown net.cells new.cells = subst (λ (cells : List Cell). IsGrown cells new.cells) same_cells (IsGrown-grows r.grows) in
@@ -196,6 +217,7 @@ module _ {width ticks : ℕ} {whole : List Element} {old net : NetView} {from la
         first_is = let e = so.first_is in let m = sizes-more front g in omega (arith, e, m);
         done_is = λ v. ap (apply_group g) (so.done_is v) ∙ sym (apply-more front g v);
         walk = walk_next split.within head_walk;
+        fits = (none_of _ _ head_fits).1;
         limits = split.limits;
         built = head_built.1;
         zero_in = zero-group g so.stream.low so.stream.high split.within is_built_head so.zero_in;
@@ -208,7 +230,7 @@ module _ {width ticks : ℕ} {whole : List Element} {old net : NetView} {from la
         period = period_is r.period f.up f.down;
         balance = subst (λ (p : Pace). period_after g so.stream.period * p.up ≡ ticks * p.down) (sym (pace-more front g at_once))
             (balance-more so.stream.period (period_after g so.stream.period) ticks (pace_all front at_once).up (pace_all front at_once).down g so.balance (period-whole g so.stream.period (walk_rate head_walk)));
-        offset = r.offset ∙ ap (λ (n : ℕ). n + adds.facts.delay last.period) so.offset ∙ ap (λ (p : ℕ). so.stream.offset + adds.facts.delay p) so.period ∙ ap (λ (n : ℕ). so.stream.offset + n) (f.delay so.stream);
+        offset = r.offset ∙ ap (λ (n : ℕ). n + adds.facts.delay last.period) so.offset ∙ ap (λ (p : ℕ). so.stream.offset + adds.facts.delay p) so.period ∙ ap (λ (n : ℕ). so.stream.offset + n) (f.delay so.stream flow_is);
         inside = next_in;
         grown = IsGrown-trans old.cells net.cells new.cells so.grown grown;
         grouped = subst (λ (n : ℕ). 1 ≤ n) (sym (r.grows.group ∙ same_group)) so.some;
@@ -218,7 +240,7 @@ module _ {width ticks : ℕ} {whole : List Element} {old net : NetView} {from la
             subst (λ (w : Sequence). Carries values added.emitted.stream w) (f.does (so.done v)) (r.carries inputs values (so.done v) (holds v h) run before);
         whole_carries = λ p inputs values v h run carried.
             let none = unrounded front g p in
-            let linear = plain-carries g adds.facts (plain-group g none.plain) adds.has_facts in
+            let linear = plain-carries g (flow_before last.period fact) adds.facts (plain-group g none.plain) adds.has_facts in
             let before = so.whole_carries none.before inputs values v h (grown.extends.runs cut_control IsCut-control inputs values run) carried in
             subst (λ (w : Sequence). Carries values added.emitted.stream w) (f.does (so.done v)) (r.whole linear inputs values (so.done v) (holds v h) run before);
         names = λ name other which.
@@ -279,7 +301,7 @@ SoFar-plan plan facts old net from rest rest_is inside nameless offset period ac
     let l = p.limits in
     subst (λ (es : List Element). SoFar (size plan.width) (size plan.ticks) plan.elements old net from from es facts.groups.items 1 []) (sym rest_is)
     (SoFar-start (size plan.width) (size plan.ticks) plan.elements old net from facts.groups.items inside nameless offset period
-    (size_least plan.width 2 l.width_low) (size_most plan.width 64 l.width_high) (size_least plan.ticks 1 l.ticks_low) (size_most plan.ticks 65536 l.ticks_high) l.elements l.few p.rates p.peaks p.costs built are.groups_are is)
+    (size_least plan.width 2 l.width_low) (size_most plan.width 64 l.width_high) (size_least plan.ticks 1 l.ticks_low) (size_most plan.ticks 65536 l.ticks_high) l.elements l.few p.rates p.peaks p.fits p.costs built are.groups_are is)
 
 -- ---- the end
 

@@ -1,14 +1,14 @@
 -- The sums of an accepted plan's linear registers read few samples.
 use Rattle.std.proofs.Common.{◌≡◌, ◌∙◌, ℕ, zero, suc, ◌+◌, ◌*◌, ◌/◌, ◌%◌, ◌^◌, ◌<◌, ◌≤◌, sym, ap, subst, arith, true, false, nat_eq, List, [], ◌∷◌, ◌++◌, append-nil, length, Some, slice_get, pos}
-use Rattle.std.specs.Prelude.{unwrap_or}
 use Rattle.std.proofs.Math.Nat.{mul-le-mul_right}
 use Rattle.std.proofs.lemmas.Int.{ints}
 use Rattle.mr_values.specs.declared.plan.Element.{Element}
 use Rattle.mr_values.specs.declared.plan.Plan.{Plan}
-use Rattle.mr_values.specs.Timing.{Group, Fir, DownCic, UpCic, Rounding, Clipping, ceil_div, groups, up_factor, down_factor, taps_of}
+use Rattle.mr_values.specs.Timing.{Group, Fir, DownCic, UpCic, Rounding, Clipping, ceil_div, groups, wide, up_factor, down_factor}
 use Rattle.mr_values.specs.Value.{size}
 use Rattle.plan_check.specs.Accepted.{IsAccepted}
 use Rattle.plan_check.specs.Costs.{memory_of}
+use Rattle.plan_check.specs.Forms.{Flow, group_fits}
 use Rattle.plan_check.proofs.GroupSplit.{size_low}
 use Rattle.plan_laws.proofs.Passes.{passes_of}
 use Rattle.impulse_phase.specs.Reach.{extent}
@@ -19,15 +19,16 @@ use Rattle.stage_law.specs.Kinds.{is_linear}
 use Rattle.stage_law.specs.Least.{IsTimely}
 use Rattle.stage_law.specs.Registers.{HeldSum, StageRegister, Telling, bits_of}
 use Rattle.chain_build.specs.Added.{HasFacts}
-use Rattle.chain_build.specs.Built.{kind_of, has_rounding, IsPlainGroup}
+use Rattle.chain_build.specs.Built.{kind_of, has_rounding, IsBuiltGroup, IsPlainGroup}
 use Rattle.chain_build.specs.Linear.{each_index, output_register}
 use Rattle.chain_build.specs.Soon.{ReadsFew}
+use Rattle.chain_build.proofs.FormFacts.{fir-short}
 use Rattle.chain_build.proofs.CostLimits.{left-of, head_costs, head_rate, reach-own, round_next}
 use Rattle.chain_build.proofs.Measures.{measure_of}
 use Rattle.chain_build.proofs.PeakLists.{needed_of}
 use Rattle.chain_build.proofs.RegisterLemmas.{needed-member}
 use Rattle.chain_build.proofs.Rounds.{round-within}
-use Rattle.chain_build.proofs.SampleBounds.{whole-below, ceil_div-covers, ceil_div-fewer, same-stretch, read-behind}
+use Rattle.chain_build.proofs.SampleBounds.{whole-below, ceil_div-covers, same-stretch, read-behind}
 
 -- ---- the sums of a linear group have few weights
 
@@ -39,15 +40,13 @@ linear-plain (Rounding k m) is = absurd (cc)
 linear-plain (Clipping bits) is = absurd (cc)
 
 -- as many as the values that the group remembers, and two more
-linear-short : (g : Group) (facts : StageFacts) → HasFacts g facts → is_linear (kind_of g) ≡ true → 0 < up_factor g → facts.longest ≤ memory_of g / up_factor g + 2
-linear-short (Fir u f d) facts has is some =
-    let same : facts.longest ≡ ceil_div (length (taps_of f)) (unwrap_or u 1) + 1 = ap (λ (x : StageFacts). x.longest) has in
-    let fewer = ceil_div-fewer (length (taps_of f)) (unwrap_or u 1) some in
-    omega (arith, same, fewer)
-linear-short (DownCic a b c) facts has is some = absurd (cc)
-linear-short (UpCic a b c) facts has is some = absurd (cc)
-linear-short (Rounding k m) facts has is some = absurd (cc)
-linear-short (Clipping bits) facts has is some = absurd (cc)
+linear-short : (g : Group) (flow : Flow) (facts : StageFacts) → IsBuiltGroup g → group_fits g flow ≡ true → HasFacts g flow facts → is_linear (kind_of g) ≡ true → 0 < up_factor g → facts.longest ≤ memory_of g / up_factor g + 2
+linear-short (Fir u f d) flow facts built fits has is some =
+    subst (λ (x : StageFacts). x.longest ≤ memory_of (Fir u f d) / up_factor (Fir u f d) + 2) (sym has) (fir-short u f d flow (wide flow.low flow.high) built fits some)
+linear-short (DownCic a b c) flow facts built fits has is some = absurd (cc)
+linear-short (UpCic a b c) flow facts built fits has is some = absurd (cc)
+linear-short (Rounding k m) flow facts built fits has is some = absurd (cc)
+linear-short (Clipping bits) flow facts built fits has is some = absurd (cc)
 
 -- every index is a class with one round
 one-turn : (classes step : ℕ) → 1 / common classes 1 * step ≡ step
@@ -65,9 +64,9 @@ module _ (plan : Plan) (es : List Element) (front : List Group) (accepted : IsAc
   some_ticks = let limits = (passes_of plan accepted).limits in size_low 65536 plan.ticks (limits.ticks_low, limits.ticks_high)
 
   -- the sums of the group that comes next
-  pub reads-group : (g : Group) (left : List Group) → groups plan.elements ≡ front ++ g ∷ left → (facts : StageFacts) → HasFacts g facts → facts.up ≡ up_factor g → facts.down ≡ down_factor g → 0 < facts.down → is_linear (kind_of g) ≡ true → (period : ℕ) (s : HeldSum) → IsTimely facts period s
+  pub reads-group : (g : Group) (left : List Group) → groups plan.elements ≡ front ++ g ∷ left → (flow : Flow) (facts : StageFacts) → IsBuiltGroup g → group_fits g flow ≡ true → HasFacts g flow facts → facts.up ≡ up_factor g → facts.down ≡ down_factor g → 0 < facts.down → is_linear (kind_of g) ≡ true → (period : ℕ) (s : HeldSum) → IsTimely facts period s
       → ReadsFew es s.form s.class
-  reads-group g left parts facts has up_is down_is some_down is own_period s timely =
+  reads-group g left parts flow facts built fits has up_is down_is some_down is own_period s timely =
       let h = left-of plan es front (g ∷ left) accepted parts none linear are in
       let plain = linear-plain g is in
       let short = timely.short in
@@ -80,7 +79,7 @@ module _ (plan : Plan) (es : List Element) (front : List Group) (accepted : IsAc
       let whole : steps * up_factor g * period ≤ memory_of g * period = mul-le-mul_right period (whole-below (memory_of g) (up_factor g)) in
       let stretch : steps * period ≤ most * (1 * size plan.ticks) = factor-le (steps * period) (most * (1 * size plan.ticks)) (up_factor g) (omega (arith, covers, whole)) raises in
       let room : steps * (extent es).down ≤ most * ((extent es).up * 1) = same-stretch steps period (size plan.ticks) 1 (extent es).up (extent es).down most some_ticks h.stands.pace stretch in
-      let longest = linear-short g facts has is raises in
+      let longest = linear-short g flow facts built fits has is raises in
       let read = read-behind es linear steps most (length s.form) (omega (arith, room)) (omega (arith, short, longest)) in
       let near = h.stands.near in
       let own = h.stands.reach in

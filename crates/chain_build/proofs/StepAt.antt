@@ -13,21 +13,21 @@ use Rattle.chain_build.specs.declared.groups.Added.{Added}
 use Rattle.chain_build.specs.Added.{IsGroupAdded}
 use Rattle.chain_build.specs.Built.{has_rounding}
 use Rattle.chain_build.specs.LinearOn.{HasGroupRegisters}
-use Rattle.chain_build.specs.Prefixes.{streams_before, elements_before}
+use Rattle.chain_build.specs.Prefixes.{flow_before, streams_before, elements_before}
 use Rattle.chain_build.proofs.Prefixes.{after-more}
 use Rattle.chain_build.proofs.RegistersSoFar.{RegistersSoFar, RegistersSoFar-next, RegistersSoFar-end, IsStep}
-use Rattle.chain_build.proofs.SoFar.{SoFar, SoFar-all, SoFar-none, is_built_head}
+use Rattle.chain_build.proofs.SoFar.{SoFar, SoFar-all, SoFar-none, flow_is}
 use Rattle.chain_build.proofs.StepLemmas.{is_step}
 use Rattle.chain_build.proofs.Taking.{exact_streams}
 
 pub registers_next : {plan : Plan} {old net new : NetView} {from last : Stream} {rest : List Element} {fact : GroupFacts} {left : List GroupFacts} {number : ℕ} {front : List Group} {g : Group} {others : List Element} (accepted : IsAccepted plan)
     (so : SoFar (size plan.width) (size plan.ticks) plan.elements old net from last rest (fact ∷ left) number front) (split : IsSplit rest g others) (rounded : Bool) → rounded ≡ has_rounding front
     → RegistersSoFar (size plan.width) (size plan.ticks) plan.elements net.cells from front (groups rest) (after_all front (input (size plan.width) (size plan.ticks))) number
-    → (mid : NetView) (added : Added) → mid ≡ record { cells = net.cells; group = number } → IsGroupAdded g (streams_before rounded (size plan.width) (elements_before plan fact) fact.span_lo fact.span_hi) mid new last added
+    → (mid : NetView) (added : Added) → mid ≡ record { cells = net.cells; group = number } → IsGroupAdded g (flow_before last.period fact) (streams_before rounded (size plan.width) (elements_before plan fact) fact.span_lo fact.span_hi) mid new last added
     → RegistersSoFar (size plan.width) (size plan.ticks) plan.elements new.cells from (front ++ g ∷ []) (groups others) (after_all (front ++ g ∷ []) (input (size plan.width) (size plan.ticks))) (number + 1)
 registers_next {plan} {old} {net} {new} {from} {last} {rest} {fact} {left} {number} {front} {g} {others} accepted so split rounded is registers mid added mid_is adds =
     let start = input (size plan.width) (size plan.ticks) in
-    let step = is_step accepted split so (is_built_head so split) mid_is adds (exact_streams accepted so split rounded is) in
+    let step = is_step accepted split so (flow_is so split) mid_is adds (exact_streams accepted so split rounded is) in
     let here : IsStep (size plan.width) plan.elements net.cells new.cells from front g (after_all front start) number =
     subst (λ (s : Timed). IsStep (size plan.width) plan.elements net.cells new.cells from front g s number) so.stream_is step in
     subst (λ (s : Timed). RegistersSoFar (size plan.width) (size plan.ticks) plan.elements new.cells from (front ++ g ∷ []) (groups others) s (number + 1)) (sym (after-more front g start))

@@ -1,13 +1,12 @@
 -- What a group adds to the linear registers so far.
-use Rattle.std.proofs.Common.{◌≡◌, ℕ, zero, suc, ◌+◌, ◌<◌, true, false, List, [], ◌∷◌, ◌++◌, length, map, take, Option, Some, slice_get, refl, sym, ◌∙◌, ap, subst, arith, inl, inr, ℤ}
+use Rattle.std.proofs.Common.{◌≡◌, ℕ, zero, suc, ◌+◌, ◌<◌, Bool, true, false, List, [], ◌∷◌, ◌++◌, length, map, take, Option, Some, slice_get, refl, sym, ◌∙◌, ap, subst, arith, inl, inr, ℤ}
 use Rattle.std.specs.Prelude.{All, unwrap_or}
 use Rattle.std.proofs.lemmas.Bool.{cases_lt}
 use Rattle.mr_values.specs.declared.plan.Element.{Element}
 use Rattle.mr_values.specs.declared.plan.Form.{Form}
-use Rattle.mr_values.specs.declared.plan.Form.TheVariants.{Parallel}
 use Rattle.mr_values.specs.declared.plan.Plan.{Plan}
 use Rattle.mr_values.specs.Sequence.{Sequence, samples}
-use Rattle.mr_values.specs.Timing.{Group, Fir, DownCic, UpCic, Rounding, Clipping, groups, taps_of, form_of}
+use Rattle.mr_values.specs.Timing.{Group, Fir, DownCic, UpCic, Rounding, Clipping, groups, wide, taps_of, form_of, Stream as Timed}
 use Rattle.mr_values.specs.Value.{size, chain}
 use Rattle.mr_values.specs.Width.{FitsWidth}
 use Rattle.net_graph.specs.declared.cell.Cell.{Cell}
@@ -27,7 +26,7 @@ use Rattle.plan_check.specs.declared.facts.GroupFacts.{GroupFacts}
 use Rattle.plan_check.specs.Accepted.{IsAccepted}
 use Rattle.plan_check.specs.Groups.{IsSplit}
 use Rattle.plan_laws.proofs.Passes.{passes_of}
-use Rattle.polyphase_fir.specs.Facts.{polyphase_facts}
+use Rattle.plan_check.specs.Forms.{Flow, flow_of}
 use Rattle.stage_law.specs.Facts.{StageFacts}
 use Rattle.stage_law.specs.Kinds.{is_linear}
 use Rattle.stage_law.specs.Least.{HasRegisters}
@@ -35,10 +34,12 @@ use Rattle.stage_law.specs.Registers.{StageRegister, TellsRanges}
 use Rattle.stage_law.specs.Streams.{Streams}
 use Rattle.chain_build.specs.declared.groups.Added.{Added}
 use Rattle.chain_build.specs.Added.{HasFacts, IsGroupAdded}
-use Rattle.chain_build.specs.Built.{IsBuiltGroup, rounds, has_rounding, kind_of, form_kind}
-use Rattle.chain_build.specs.Linear.{LinearRegister, PrefixStream, prefix_range, register_of, fir_registers, group_registers, is_linear_group, is_linear_number}
+use Rattle.chain_build.specs.Built.{rounds, has_rounding, kind_of}
+use Rattle.chain_build.specs.Forms.{form_kind, fir_facts}
+use Rattle.chain_build.specs.Linear.{LinearRegister, PrefixStream, prefix_range, register_of, group_registers, is_linear_group, is_linear_number}
 use Rattle.chain_build.specs.LinearNet.{IsListed}
 use Rattle.chain_build.proofs.ExactPrefixes.{prefix-linear, prefix-tells}
+use Rattle.chain_build.proofs.FormFacts.{fir-kind, unlinear-fir}
 use Rattle.chain_build.proofs.Prefixes.{sizes, chain-first}
 use Rattle.chain_build.proofs.RegisterLemmas.{register_on}
 use Rattle.chain_build.specs.LinearOn.{IsRegisterOn}
@@ -48,15 +49,25 @@ use Rattle.chain_build.proofs.Samples.{the_samples}
 use Rattle.chain_build.proofs.SoFar.{SoFar}
 
 -- the registers that a stage tells are those of the group
-pub record TellsOwn (g : Group) (facts : StageFacts) : Type 0 where
+pub record TellsOwn (g : Group) (flow : Flow) (facts : StageFacts) : Type 0 where
   pub linear : is_linear facts.kind ≡ true
-  pub same : (period : ℕ) → facts.registers period ≡ group_registers g period
+  pub same : (s : Timed) → flow_of s ≡ flow → facts.registers s.period ≡ group_registers g s
 
-tells-fir : (u : Option ℕ) (f : Option (List ℤ × Form)) (d : Option ℕ) (facts : StageFacts) → form_of f ≡ Parallel → facts ≡ polyphase_facts (taps_of f) (unwrap_or u 1) (unwrap_or d 1) → TellsOwn (Fir u f d) facts
-tells-fir u f d facts plain is = record {
-  linear = ap (λ (e : StageFacts). is_linear e.kind) is;
-  same = λ period. ap (λ (e : StageFacts). e.registers period) is ∙ ap (λ (form : Form). fir_registers form (taps_of f) (unwrap_or u 1) (unwrap_or d 1) period) (sym plain);
+tells-fir : (u : Option ℕ) (f : Option (List ℤ × Form)) (d : Option ℕ) (flow : Flow) (facts : StageFacts) → is_linear (form_kind (form_of f)) ≡ true → facts ≡ fir_facts (form_of f) (taps_of f) (unwrap_or u 1) (unwrap_or d 1) (wide flow.low flow.high) → TellsOwn (Fir u f d) flow facts
+tells-fir u f d flow facts linear is = record {
+  linear = ap (λ (e : StageFacts). is_linear e.kind) is ∙ ap is_linear (fir-kind (form_of f) (taps_of f) (unwrap_or u 1) (unwrap_or d 1) (wide flow.low flow.high)) ∙ linear;
+  same = λ s flows.
+      ap (λ (e : StageFacts). e.registers s.period) is
+      ∙ ap (λ (w : Flow). (fir_facts (form_of f) (taps_of f) (unwrap_or u 1) (unwrap_or d 1) (wide w.low w.high)).registers s.period) (sym flows);
 }
+
+-- a group that is not linear has no linear registers
+pub unlinear : (g : Group) (s : Timed) → is_linear (kind_of g) ≡ false → group_registers g s ≡ []
+unlinear (Fir u f d) s e = unlinear-fir (form_of f) (taps_of f) (unwrap_or u 1) (unwrap_or d 1) (wide s.low s.high) s.period e
+unlinear (DownCic r n m) s e = refl
+unlinear (UpCic r n m) s e = refl
+unlinear (Rounding k m) s e = refl
+unlinear (Clipping bits) s e = refl
 
 -- an element of a mapped list
 pub record IsMapped {A B : Type 0} (f : A → B) (xs : List A) (i : ℕ) (b : B) : Type 0 where
@@ -68,12 +79,6 @@ pub mapped : {A B : Type 0} (f : A → B) (xs : List A) (i : ℕ) (b : B) → sl
 mapped f [] i b is = absurd (cc)
 mapped f (x ∷ xs) zero b is = record { from = x; there = refl; is = cc }
 mapped f (x ∷ xs) (suc i) b is = let m = mapped f xs i b is in record { from = m.from; there = m.there; is = m.is }
-
--- a form that is linear
-pub linear_fir : (g : Group) (u : Option ℕ) (f : Option (List ℤ × Form)) (d : Option ℕ) → g ≡ Fir u f d → IsBuiltGroup g → is_linear (kind_of g) ≡ true
-linear_fir g u f d is built =
-    let plain : form_of f ≡ Parallel = subst IsBuiltGroup is built in
-    ap (λ (h : Group). is_linear (kind_of h)) is ∙ ap (λ (form : Form). is_linear (form_kind form)) plain
 
 same_where : {s t : Streams} (P : Streams → Type 0) → s ≡ t → P t → P s
 same_where P is h = subst P (sym is) h
@@ -108,18 +113,18 @@ listed-mapped f (x ∷ xs) zero r name is named = record { place = 0; r = f x; t
 listed-mapped f (x ∷ xs) (suc i) r name is named = let m = listed-mapped f xs i r name is named in record { place = suc m.place; r = m.r; there = m.there; named = m.named }
 
 -- the group adds registers if it is linear
-pub tells_own : (g : Group) (facts : StageFacts) → IsBuiltGroup g → HasFacts g facts → is_linear (kind_of g) ≡ true → TellsOwn g facts
-tells_own (Fir u f d) facts plain has linear = tells-fir u f d facts plain has
-tells_own (DownCic r n m) facts plain has linear = absurd (cc)
-tells_own (UpCic r n m) facts plain has linear = absurd (cc)
-tells_own (Rounding s m) facts plain has linear = absurd (cc)
-tells_own (Clipping bits) facts plain has linear = absurd (cc)
+pub tells_own : (g : Group) (flow : Flow) (facts : StageFacts) → HasFacts g flow facts → is_linear (kind_of g) ≡ true → TellsOwn g flow facts
+tells_own (Fir u f d) flow facts has linear = tells-fir u f d flow facts linear has
+tells_own (DownCic r n m) flow facts has linear = absurd (cc)
+tells_own (UpCic r n m) flow facts has linear = absurd (cc)
+tells_own (Rounding s m) flow facts has linear = absurd (cc)
+tells_own (Clipping bits) flow facts has linear = absurd (cc)
 
 -- ---- the step of a linear group
 
-module _ {plan : Plan} {old net mid new : NetView} {from last : Stream} {rest : List Element} {left : List GroupFacts} {number : ℕ} {front : List Group} {g : Group} {others : List Element} {streams : Streams} {added : Added}
-    (accepted : IsAccepted plan) (split : IsSplit rest g others) (so : SoFar (size plan.width) (size plan.ticks) plan.elements old net from last rest left number front) (built : IsBuiltGroup g) (mid_is : mid ≡ record { cells = net.cells; group = number })
-    (adds : IsGroupAdded g streams mid new last added) (exact : has_rounding front ≡ false → streams ≡ IsStream (chain (take (sizes front) plan.elements)) (size plan.width)) where
+module _ {plan : Plan} {old net mid new : NetView} {from last : Stream} {rest : List Element} {left : List GroupFacts} {number : ℕ} {front : List Group} {g : Group} {others : List Element} {streams : Streams} {added : Added} {flow : Flow}
+    (accepted : IsAccepted plan) (split : IsSplit rest g others) (so : SoFar (size plan.width) (size plan.ticks) plan.elements old net from last rest left number front) (flow_is : flow_of so.stream ≡ flow) (mid_is : mid ≡ record { cells = net.cells; group = number })
+    (adds : IsGroupAdded g flow streams mid new last added) (exact : has_rounding front ≡ false → streams ≡ IsStream (chain (take (sizes front) plan.elements)) (size plan.width)) where
   abbrev at : PrefixStream
   at = stream_at plan.elements (sizes front) so.stream
 
@@ -140,16 +145,16 @@ module _ {plan : Plan} {old net mid new : NetView} {from last : Stream} {rest : 
   whole_prefix none inputs values xs fit run carried =
       subst (λ (v : Sequence). Carries values last v) (so.done_is (samples xs) ∙ sym (chain-first plan.elements front (groups rest) (samples xs) so.parts)) (so.whole_carries none inputs values (samples xs) (the_samples xs fit) run carried)
 
-  module _ (tells : TellsOwn g adds.facts) where
+  module _ (tells : TellsOwn g flow adds.facts) where
     has_registers : HasRegisters adds.facts streams new.cells number last added.emitted.peaks.items
     has_registers = subst (λ (n : ℕ). HasRegisters adds.facts streams new.cells n last added.emitted.peaks.items) same_group (adds.realises.registers tells.linear)
 
-    told_registers : adds.facts.registers last.period ≡ group_registers g so.stream.period
-    told_registers = tells.same last.period ∙ ap (group_registers g) so.period
+    told_registers : adds.facts.registers last.period ≡ group_registers g so.stream
+    told_registers = ap adds.facts.registers so.period ∙ tells.same so.stream flow_is
 
     own_on : has_rounding front ≡ false → (i : ℕ) (r : LinearRegister) → slice_get (own_registers (size plan.width) plan.elements number (sizes front) so.stream g) i ≡ Some r → IsRegisterOn (size plan.width) new.cells from r
     own_on none i r there =
-        let m = mapped (register_of (size plan.width) number at) (group_registers g so.stream.period) i r there in
+        let m = mapped (register_of (size plan.width) number at) (group_registers g so.stream) i r there in
         let told : slice_get (adds.facts.registers last.period) i ≡ Some m.from = ap (λ (rs : List StageRegister). slice_get rs i) told_registers ∙ m.there in
         let linear = prefix-linear plan.elements front (groups rest) (passes_of plan accepted).limits.elements so.parts none in
         let has : (xs : List ℤ) → All (FitsWidth (size plan.width)) xs → streams (chain at.elements (samples xs)) =
@@ -163,19 +168,17 @@ module _ {plan : Plan} {old net mid new : NetView} {from last : Stream} {rest : 
     own_only name group_is other taken =
         let own_name : name_of number name.kind name.number ≡ name = ap (λ (n : ℕ). name_of n name.kind name.number) (sym group_is) in
         let l = has_registers.only name.kind name.number other (λ free. taken (subst (IsFree new.cells) own_name free)) in
-        let there : slice_get (group_registers g so.stream.period) l.index ≡ Some l.r = ap (λ (rs : List StageRegister). slice_get rs l.index) (sym told_registers) ∙ l.there in
-        listed-mapped (register_of (size plan.width) number at) (group_registers g so.stream.period) l.index l.r name there
+        let there : slice_get (group_registers g so.stream) l.index ≡ Some l.r = ap (λ (rs : List StageRegister). slice_get rs l.index) (sym told_registers) ∙ l.there in
+        listed-mapped (register_of (size plan.width) number at) (group_registers g so.stream) l.index l.r name there
         (ap (λ (k : NameKind). name_of number k l.r.number) l.is_kind ∙ ap (name_of number name.kind) l.is_number ∙ own_name)
 
   own_each : has_rounding front ≡ false → rounds g ≡ false → (i : ℕ) (r : LinearRegister) → slice_get (own_registers (size plan.width) plan.elements number (sizes front) so.stream g) i ≡ Some r → IsRegisterOn (size plan.width) new.cells from r
-  own_each none plain i r there = by g refl
+  own_each none plain i r there = by (is_linear (kind_of g)) refl
     where
-      by : (h : Group) → g ≡ h → IsRegisterOn (size plan.width) new.cells from r
-      by (Fir u f d) is = own_on (tells_own g adds.facts built adds.has_facts (linear_fir g u f d is built)) none i r there
-      by (DownCic a b c) is = absurd (let e : slice_get (own_registers (size plan.width) plan.elements number (sizes front) so.stream (DownCic a b c)) i ≡ Some r = subst (λ (h : Group). slice_get (own_registers (size plan.width) plan.elements number (sizes front) so.stream h) i ≡ Some r) is there in cc)
-      by (UpCic a b c) is = absurd (let e : slice_get (own_registers (size plan.width) plan.elements number (sizes front) so.stream (UpCic a b c)) i ≡ Some r = subst (λ (h : Group). slice_get (own_registers (size plan.width) plan.elements number (sizes front) so.stream h) i ≡ Some r) is there in cc)
-      by (Rounding s m) is = absurd (let e : true ≡ false = sym (ap rounds is) ∙ plain in cc)
-      by (Clipping bits) is = absurd (let e : true ≡ false = sym (ap rounds is) ∙ plain in cc)
+      by : (b : Bool) → is_linear (kind_of g) ≡ b → IsRegisterOn (size plan.width) new.cells from r
+      by true linear = own_on (tells_own g flow adds.facts adds.has_facts linear) none i r there
+      by false linear =
+          absurd (let e : slice_get (map (register_of (size plan.width) number at) []) i ≡ Some r = subst (λ (rs : List StageRegister). slice_get (map (register_of (size plan.width) number at) rs) i ≡ Some r) (unlinear g so.stream linear) there in cc)
 
   pub is_step : IsStep (size plan.width) plan.elements net.cells new.cells from front g so.stream number
   is_step = record {
@@ -200,5 +203,5 @@ module _ {plan : Plan} {old net mid new : NetView} {from last : Stream} {rest : 
           record {
             before = at_g.before;
             plain = at_g.plain;
-            is_listed = own_only (tells_own g adds.facts built adds.has_facts at_g.linear) name group_is t.is_data t.taken;
+            is_listed = own_only (tells_own g flow adds.facts adds.has_facts at_g.linear) name group_is t.is_data t.taken;
           }

@@ -1,9 +1,9 @@
 -- What the groups of a plan add to a net, one after another.
-use Rattle.std.specs.Prelude.{◌≡◌, ℕ, ℤ, ◌-◌, ◌*◌, ◌%◌, ◌^◌, ◌≤◌, ◌<◌, false, List, length, Some, slice_get, unsigned_abs, unwrap_or, All}
+use Rattle.std.specs.Prelude.{◌≡◌, ℕ, ℤ, ◌-◌, ◌*◌, ◌%◌, ◌^◌, ◌≤◌, ◌<◌, true, false, List, length, Some, slice_get, unsigned_abs, unwrap_or, All}
 use Rattle.mr_values.specs.declared.plan.Element.{Element}
 use Rattle.mr_values.specs.Sequence.{samples}
 use Rattle.mr_values.specs.Value.{chain}
-use Rattle.mr_values.specs.Timing.{Group, Fir, DownCic, UpCic, Rounding, Clipping, taps_of, up_factor, down_factor, groups, last_stream}
+use Rattle.mr_values.specs.Timing.{Group, Fir, DownCic, UpCic, Rounding, Clipping, taps_of, form_of, wide, up_factor, down_factor, groups, last_stream}
 use Rattle.mr_values.specs.Width.{FitsWidth}
 use Rattle.net_graph.specs.declared.cell.Cell.{Cell}
 use Rattle.net_graph.specs.declared.cell.Stream.{Stream}
@@ -18,8 +18,8 @@ use Rattle.net_graph.specs.Run.{Values, IsRun}
 use Rattle.net_graph.specs.WellFormed.{IsBound, IsFree}
 use Rattle.impulse_phase.specs.Reach.{extent}
 use Rattle.pipeline_balance.specs.Gate.{Carries}
+use Rattle.plan_check.specs.Forms.{Flow, group_fits}
 use Rattle.cic_chain.specs.Facts.{cic_down_facts, cic_up_facts}
-use Rattle.polyphase_fir.specs.Facts.{polyphase_facts}
 use Rattle.rounding_stage.specs.Rounding.{rounding_facts}
 use Rattle.span_ranges.specs.Span.{IsInSpan}
 use Rattle.stage_law.specs.Facts.{StageFacts}
@@ -27,14 +27,15 @@ use Rattle.stage_law.specs.Realises.{Realises}
 use Rattle.stage_law.specs.Streams.{Streams}
 use Rattle.chain_build.specs.declared.groups.Added.{Added}
 use Rattle.chain_build.specs.Built.{ArePlainGroups, kind_of}
+use Rattle.chain_build.specs.Forms.{fir_facts}
 
--- what a group is as a stage
-abbrev pub HasFacts : Group → StageFacts → Type 0
-HasFacts (Fir up filter down) facts = facts ≡ polyphase_facts (taps_of filter) (unwrap_or up 1) (unwrap_or down 1)
-HasFacts (DownCic factor stages delay) facts = facts ≡ cic_down_facts factor stages delay
-HasFacts (UpCic factor stages delay) facts = facts ≡ cic_up_facts factor stages delay
-HasFacts (Rounding shift mode) facts = facts ≡ rounding_facts shift mode
-HasFacts (Clipping bits) facts = ⊥
+-- what a group is as a stage, on a stream of this flow
+abbrev pub HasFacts : Group → Flow → StageFacts → Type 0
+HasFacts (Fir up filter down) flow facts = facts ≡ fir_facts (form_of filter) (taps_of filter) (unwrap_or up 1) (unwrap_or down 1) (wide flow.low flow.high)
+HasFacts (DownCic factor stages delay) flow facts = facts ≡ cic_down_facts factor stages delay
+HasFacts (UpCic factor stages delay) flow facts = facts ≡ cic_up_facts factor stages delay
+HasFacts (Rounding shift mode) flow facts = facts ≡ rounding_facts shift mode
+HasFacts (Clipping bits) flow facts = ⊥
 
 abbrev pub IsCascade : Group → Type 0
 IsCascade (DownCic factor stages delay) = Unit {0}
@@ -47,10 +48,19 @@ pub record IsTaking (g : Group) (period : ℕ) : Type 0 where
   pub long : period ≤ 2 ^ 31 - 1
   pub whole : period * down_factor g % up_factor g ≡ 0
 
--- the group's stage was added and realises its elements, and its form and its cost were told
-pub record IsGroupAdded (g : Group) (streams : Streams) (old new : NetView) (from : Stream) (added : Added) : Type 0 where
+-- a stage was added that is this, and its form and its cost were told
+pub record IsStageAdded (facts : StageFacts) (streams : Streams) (old new : NetView) (from : Stream) (added : Added) : Type 0 where
+  pub realises : Realises facts streams old new from added.emitted
+  pub kind : added.cost.kind ≡ facts.kind
+  pub adders : added.cost.cost.adders ≡ facts.adders
+  pub windows : added.cost.cost.windows ≡ facts.windows
+  pub tables : added.cost.cost.tables ≡ facts.tables
+
+-- the group, which fits a stream of this flow, was added as its stage, and its form and its cost were told
+pub record IsGroupAdded (g : Group) (flow : Flow) (streams : Streams) (old new : NetView) (from : Stream) (added : Added) : Type 0 where
+  pub fits : group_fits g flow ≡ true
   pub facts : StageFacts
-  pub has_facts : HasFacts g facts
+  pub has_facts : HasFacts g flow facts
   pub realises : Realises facts streams old new from added.emitted
   pub kind : added.cost.kind ≡ kind_of g
   pub adders : added.cost.cost.adders ≡ facts.adders

@@ -3,25 +3,17 @@ use Rattle.std.specs.Prelude.{◌≡◌, Bool, true, false, if◌then◌else◌,
 use Rattle.std.specs.List.{list_all}
 use Rattle.mr_values.specs.declared.plan.Element.{Element}
 use Rattle.mr_values.specs.declared.plan.Element.TheVariants.{Up, Down, Filter, CicDown, CicUp, Round, Clip}
-use Rattle.mr_values.specs.declared.plan.Form.{Form}
-use Rattle.mr_values.specs.declared.plan.Form.TheVariants.{Parallel, Symmetric, HalfBand, Folded, Distributed}
 use Rattle.mr_values.specs.Timing.{Group, Fir, DownCic, UpCic, Rounding, Clipping, form_of}
 use Rattle.rounding_stage.specs.Rounding.{is_built_mode}
 use Rattle.stage_law.specs.declared.stage.Kind.{Kind}
 use Rattle.stage_law.specs.declared.stage.Kind.TheVariants as kind
-
-abbrev pub is_parallel : Form → Bool
-is_parallel Parallel = true
-is_parallel Symmetric = false
-is_parallel HalfBand = false
-is_parallel (Folded slots) = false
-is_parallel (Distributed group) = false
+use Rattle.chain_build.specs.Forms.{is_built_form, form_kind}
 
 -- an element that is built
 abbrev pub is_built : Element → Bool
 is_built (Up factor) = true
 is_built (Down factor) = true
-is_built (Filter taps form) = is_parallel form
+is_built (Filter taps form) = is_built_form form
 is_built (CicDown factor stages delay) = true
 is_built (CicUp factor stages delay) = true
 is_built (Round shift mode) = is_built_mode mode
@@ -33,7 +25,7 @@ are_built elements = list_all is_built elements
 
 -- a group of elements that are built
 abbrev pub IsBuiltGroup : Group → Type 0
-IsBuiltGroup (Fir up filter down) = form_of filter ≡ Parallel
+IsBuiltGroup (Fir up filter down) = is_built_form (form_of filter) ≡ true
 IsBuiltGroup (DownCic factor stages delay) = Unit {0}
 IsBuiltGroup (UpCic factor stages delay) = Unit {0}
 IsBuiltGroup (Rounding shift mode) = is_built_mode mode ≡ true
@@ -44,13 +36,6 @@ AreBuiltGroups [] = Unit {0}
 AreBuiltGroups (g ∷ gs) = IsBuiltGroup g × AreBuiltGroups gs
 
 -- ---- the form of a group as a stage
-
-abbrev pub form_kind : Form → Kind
-form_kind Parallel = kind.Parallel
-form_kind Symmetric = kind.Symmetric
-form_kind HalfBand = kind.HalfBand
-form_kind (Folded slots) = kind.Folded
-form_kind (Distributed group) = kind.Distributed
 
 abbrev pub kind_of : Group → Kind
 kind_of (Fir up filter down) = form_kind (form_of filter)

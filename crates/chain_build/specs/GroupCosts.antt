@@ -2,9 +2,9 @@
 use Rattle.std.specs.Prelude.{◌≡◌, ℕ, ◌+◌, List, [], ◌∷◌, Some, slice_get}
 use Rattle.mr_values.specs.Timing.{Group}
 use Rattle.net_graph.specs.declared.cell.Cell.{Cell}
-use Rattle.net_graph.specs.declared.name.Name.{Name}
 use Rattle.net_graph.specs.Count.{adders_in, windows_in, tables_in}
 use Rattle.net_graph.specs.Depth.{IsShallow}
+use Rattle.net_graph.specs.Tables.{HasTables}
 use Rattle.plan_check.specs.StageCosts.{cost}
 use Rattle.chain_build.specs.Built.{kind_of}
 use Rattle.chain_build.specs.declared.groups.GroupCost.{GroupCost}
@@ -32,15 +32,7 @@ AreCostsOf number (g ∷ gs) (c ∷ costs) cells = IsCostOf g number cells c × 
 pub record AreUngrouped (cells : List Cell) : Type 0 where
   pub each : (cell : Cell) (place : ℕ) → slice_get cells place ≡ Some cell → cell.group ≡ 0
 
--- no node has the name of a table
-pub record HasNoTables (cells : List Cell) : Type 0 where
-  pub none : (group : ℕ) → tables_in group cells ≡ 0
-
--- no two nodes have one name
-pub record AreApart (cells : List Cell) : Type 0 where
-  pub apart : (j k : ℕ) (cell other : Cell) (name : Name) → slice_get cells j ≡ Some cell → slice_get cells k ≡ Some other → cell.name ≡ Some name → other.name ≡ Some name → j ≡ k
-
--- these are the costs of the groups, and there are no tables
+-- these are the costs of the groups, and each table of the net is of the group of its name and no adder
 pub record HasCosts (gs : List Group) (costs : List GroupCost) (cells : List Cell) : Type 0 where
   pub costs_are : AreCostsOf 1 gs costs cells
-  pub no_tables : HasNoTables cells
+  pub tables : HasTables cells

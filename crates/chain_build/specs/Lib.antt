@@ -3,6 +3,7 @@ pub mod Alike
 pub mod Built
 pub mod ChainNet
 pub mod Extremes
+pub mod Forms
 pub mod GroupCosts
 pub mod Groups
 pub mod Linear

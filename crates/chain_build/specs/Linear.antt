@@ -1,14 +1,11 @@
 -- The linear registers of a plan: those of its linear groups before any rounding, and `out_q` where no group rounds.
 use Rattle.std.specs.Prelude.{ℕ, zero, suc, ◌+◌, nat_eq, if◌then◌else◌, Bool, false, Option, None, List, [], ◌∷◌, ◌++◌, map, take, unwrap_or, ℤ, pos}
 use Rattle.mr_values.specs.declared.plan.Element.{Element}
-use Rattle.mr_values.specs.declared.plan.Form.{Form}
-use Rattle.mr_values.specs.declared.plan.Form.TheVariants.{Parallel, Symmetric, HalfBand, Folded, Distributed}
-use Rattle.mr_values.specs.Timing.{Group, Fir, DownCic, UpCic, Rounding, Clipping, Stream, groups, input, after, last_stream, taps_of, form_of}
+use Rattle.mr_values.specs.Timing.{Group, Fir, DownCic, UpCic, Rounding, Clipping, Stream, groups, input, after, last_stream, taps_of, form_of, wide}
 use Rattle.net_graph.specs.declared.name.Name.{Name}
 use Rattle.net_graph.specs.declared.name.NameKind.TheVariants.{Output}
 use Rattle.pipeline_balance.specs.Numbered.{name_of}
 use Rattle.plan_check.specs.Groups.{size_of}
-use Rattle.polyphase_fir.specs.Facts.{polyphase_facts}
 use Rattle.stage_law.specs.Kinds.{is_linear}
 use Rattle.stage_law.specs.Registers.{HeldSum, StageRegister, Telling, bits_of, needing}
 use Rattle.stage_law.specs.declared.ranges.Class.{Class}
@@ -16,6 +13,7 @@ use Rattle.stage_law.specs.declared.ranges.Range.{Range}
 use Rattle.impulse_phase.specs.Response.{responses, full_cycle}
 use Rattle.width_extreme.specs.Prefix.{range_of, finer_classes}
 use Rattle.chain_build.specs.Built.{kind_of, has_rounding}
+use Rattle.chain_build.specs.Forms.{fir_facts}
 
 -- the stream that elements make of the samples: value k stands at the tick offset + k * period
 pub record PrefixStream : Type 0 where
@@ -42,20 +40,13 @@ register_of w group stream r =
 
 -- ---- the registers of a group
 
-abbrev pub fir_registers : Form → List ℤ → ℕ → ℕ → ℕ → List StageRegister
-fir_registers Parallel taps up down period = (polyphase_facts taps up down).registers period
-fir_registers Symmetric taps up down period = []
-fir_registers HalfBand taps up down period = []
-fir_registers (Folded slots) taps up down period = []
-fir_registers (Distributed group) taps up down period = []
-
--- of forms that are not built, and of groups that are not linear, there are none
-abbrev pub group_registers : Group → ℕ → List StageRegister
-group_registers (Fir up filter down) period = fir_registers (form_of filter) (taps_of filter) (unwrap_or up 1) (unwrap_or down 1) period
-group_registers (DownCic factor stages delay) period = []
-group_registers (UpCic factor stages delay) period = []
-group_registers (Rounding shift mode) period = []
-group_registers (Clipping bits) period = []
+-- of groups that are not linear there are none
+abbrev pub group_registers : Group → Stream → List StageRegister
+group_registers (Fir up filter down) s = (fir_facts (form_of filter) (taps_of filter) (unwrap_or up 1) (unwrap_or down 1) (wide s.low s.high)).registers s.period
+group_registers (DownCic factor stages delay) s = []
+group_registers (UpCic factor stages delay) s = []
+group_registers (Rounding shift mode) s = []
+group_registers (Clipping bits) s = []
 
 -- every index
 abbrev pub each_index : Class
@@ -78,7 +69,7 @@ linear_from w elements number taken s [] = register_of w 0 (record { elements = 
 linear_from w elements number taken s (Rounding shift mode ∷ gs) = []
 linear_from w elements number taken s (Clipping bits ∷ gs) = []
 linear_from w elements number taken s (g ∷ gs) =
-    map (register_of w number (record { elements = take taken elements; period = s.period; offset = s.offset })) (group_registers g s.period)
+    map (register_of w number (record { elements = take taken elements; period = s.period; offset = s.offset })) (group_registers g s)
     ++ linear_from w elements (number + 1) (taken + size_of g) (after g s) gs
 
 abbrev pub linear : ℕ → ℕ → List Element → List LinearRegister

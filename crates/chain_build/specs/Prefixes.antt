@@ -6,6 +6,7 @@ use Rattle.mr_values.specs.Timing.{Group}
 use Rattle.mr_values.specs.Value.{IsWithinLimits, chain, size}
 use Rattle.plan_check.specs.declared.facts.GroupFacts.{GroupFacts}
 use Rattle.plan_check.specs.Amounts.{gain}
+use Rattle.plan_check.specs.Forms.{Flow}
 use Rattle.impulse_phase.specs.Reading.{AreModest}
 use Rattle.impulse_phase.specs.Response.{AreLinear}
 use Rattle.span_ranges.specs.Span.{IsInSpan}
@@ -25,6 +26,10 @@ pub record IsExactPrefix (plan : Plan) (taken : ℕ) : Type 0 where
 abbrev pub streams_before : Bool → ℕ → List Element → ℤ → ℤ → Streams
 streams_before true width elements low high = IsInSpan low high
 streams_before false width elements low high = IsStream (chain elements) width
+
+-- the flow of the stream before a group, whose values stand so many ticks apart
+abbrev pub flow_before : ℕ → GroupFacts → Flow
+flow_before period fact = record { period = period; low = fact.span_lo; high = fact.span_hi }
 
 -- the elements before a group
 abbrev pub elements_before : Plan → GroupFacts → List Element

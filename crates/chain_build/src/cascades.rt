@@ -8,12 +8,14 @@ ghost use Rattle.plan_check.specs.Groups.{group_of, IsGroup};
 ghost use Rattle.stage_law.specs.Realises.{IsUnused};
 ghost use Rattle.stage_law.specs.Streams.{HasRoom};
 ghost use Rattle.chain_build.specs.Added.{IsCascade, IsTaking, IsGroupAdded};
+ghost use Rattle.chain_build.specs.Prefixes.{flow_before};
 
-use crate::groups::{Added, emit_stage};
+use crate::groups::Added;
+use crate::stages::emit_stage;
 use cic_chain::{CicDown, CicUp};
 use mr_values::Memory;
 use net_graph::{Net, Stream};
-use plan_check::PlanGroup;
+use plan_check::{GroupFacts, PlanGroup};
 use stage_law::Ranges;
 use std::alloc::Global;
 
@@ -51,6 +53,7 @@ pub(crate) fn cascade_group<R: Ranges>(
     net: &mut Net,
     from: Stream,
     group: &PlanGroup,
+    fact: &GroupFacts,
     ranges: &R,
 ) -> Result<Added, Memory>
     requires is { IsCascade (group_of group.now) }
@@ -61,7 +64,7 @@ pub(crate) fn cascade_group<R: Ranges>(
     requires limits { IsGroup (group_of group.now) }
     requires takes { IsTaking (group_of group.now) from.period }
     requires room { HasRoom (R.streams ranges.now) (gain (group_of group.now)) }
-    ensures ok { IfOk result (λ a. IsGroupAdded (group_of group.now) (R.streams ranges.now) net.old net.new from a) }
+    ensures ok { IfOk result (λ a. IsGroupAdded (group_of group.now) (flow_before from.period fact.now) (R.streams ranges.now) net.old net.new from a) }
     ensures extends { Extends net.old.cells net.new.cells }
     ensures same_group { net.new.group ≡ net.old.group }
 {

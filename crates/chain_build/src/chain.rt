@@ -11,7 +11,7 @@ ghost use Rattle.stage_law.specs.Streams.{HasRoom};
 ghost use Rattle.width_extreme.specs.Prefix.{IsStream};
 ghost use Rattle.chain_build.specs.Alike.{HasCascades};
 ghost use Rattle.rounding_stage.specs.Rounding.{is_built_mode};
-ghost use Rattle.chain_build.specs.Built.{are_built, is_built, is_parallel, has_rounding};
+ghost use Rattle.chain_build.specs.Built.{are_built, is_built, has_rounding};
 ghost use Rattle.chain_build.specs.ChainNet.{IsChainNet};
 ghost use Rattle.chain_build.specs.GroupCosts.{HasCosts};
 ghost use Rattle.chain_build.specs.Groups.{AreGrouped};
@@ -23,11 +23,13 @@ ghost use Rattle.chain_build.specs.Shapes.{HaveLinearItems};
 ghost use Rattle.chain_build.specs.Told.{TellsRegisters};
 
 use crate::extremes::{LinearPeak, RegisterExtreme, extremes_of, keep_peaks, needs_high};
+use crate::forms::is_built_form;
 use crate::groups::{GroupCost, add_groups};
-use crate::output::{Outputs, add_outputs, range_width};
+use crate::output::{Outputs, add_outputs};
 use crate::prefix::{prefix_ranges, width_of};
-use mr_values::{Element, Form, Memory, Mode, Plan};
+use mr_values::{Element, Memory, Mode, Plan};
 use net_graph::{Net, Netlist, Node, Stream};
+use net_outputs::range_width;
 use plan_check::Facts;
 use stage_law::{Class, Peak, Range, Ranges, WeightedSum};
 use std::alloc::Global;
@@ -48,13 +50,6 @@ pub struct Built {
     pub extremes: Vec<RegisterExtreme>,
 }
 
-// Whether the form is that of one tree for each phase.
-fn is_parallel(form: Form) -> bool
-    ensures { result ≡ is_parallel form }
-{
-    matches!(form, Form::Parallel)
-}
-
 // Whether a rounding of this mode is built.
 fn is_built_mode(mode: Mode) -> bool
     ensures { result ≡ is_built_mode mode }
@@ -70,7 +65,7 @@ fn can_add(element: &Element) -> bool
     ensures { result ≡ is_built element.now }
 {
     match element {
-        Element::Filter { form, .. } => is_parallel(*form),
+        Element::Filter { form, .. } => is_built_form(*form),
         Element::Up { .. }
         | Element::Down { .. }
         | Element::CicDown { .. }

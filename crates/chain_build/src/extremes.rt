@@ -5,7 +5,6 @@ ghost use Rattle.mr_values.specs.Value.{size};
 ghost use Rattle.plan_check.specs.Accepted.{IsAccepted, AreFacts};
 ghost use Rattle.stage_law.specs.Kinds.{is_linear};
 ghost use Rattle.stage_law.specs.Registers.{needs_high};
-ghost use Rattle.stage_law.specs.Weights.{weights_of};
 ghost use Rattle.chain_build.specs.Built.{are_built};
 ghost use Rattle.chain_build.specs.Peaks.{HasPlace, AreInside, AreWithPlace, HasNoneTo, HasText, IsSmallNamed, IsPeakTo, IsDriven, IsKeptOver, IsKeptPlace, AddsKeptOver, as_extreme};
 ghost use Rattle.chain_build.specs.Told.{IsRegisterExtreme, HasNoRegister};
@@ -15,7 +14,7 @@ use crate::prefix::prefix_ranges;
 use mr_values::{Memory, Plan, least_width};
 use net_graph::{NameKind, Netlist, Node, Stream, name_text};
 use plan_check::Facts;
-use stage_law::{Kind, Peak, Range, WeightedSum};
+use stage_law::{Kind, Peak, Range};
 use std::alloc::Global;
 use width_extreme::PrefixRanges;
 
@@ -72,17 +71,6 @@ fn tick_of(from: Stream, index: u128, lag: u64) -> u128
     u128::from(from.offset) + index * u128::from(from.period) + u128::from(lag)
 }
 
-// A copy of the sum.
-fn copy_of(alloc: Global, sum: &WeightedSum) -> Result<WeightedSum, Memory>
-    ensures { IfOk result (λ copy. weights_of copy ≡ weights_of sum.now) }
-{
-    let weights = Vec::from_slice(alloc, &sum.weights)?;
-    Ok(WeightedSum {
-        behind: sum.behind,
-        weights,
-    })
-}
-
 // Where some samples drive the register of the peak to a value which needs all of its bits.
 fn kept_peak(
     alloc: Global,
@@ -100,7 +88,7 @@ fn kept_peak(
     Ok(LinearPeak {
         peak: Peak {
             register: peak.register,
-            sum: copy_of(alloc, &peak.sum)?,
+            sum: peak.sum.copy(alloc)?,
             class: peak.class,
             lag: peak.lag,
             high: peak.high,

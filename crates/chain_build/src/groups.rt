@@ -1,16 +1,17 @@
 // The groups of a plan, one after another.
 
-ghost use Rattle.std.specs.Prelude.{◌≡◌, ◌-◌, ◌≤◌, ◌<◌, ◌^◌, pos, ◌≤ℤ◌, [], length, take, IfOk};
+ghost use Rattle.std.specs.Prelude.{◌≡◌, ◌-◌, ◌≤◌, ◌<◌, ◌^◌, pos, ◌≤ℤ◌, [], true, length, IfOk};
 ghost use Rattle.std.specs.Option.{option_map};
 ghost use Rattle.mr_values.specs.Value.{size, chain};
-ghost use Rattle.mr_values.specs.Timing.{groups, taps_of};
+ghost use Rattle.mr_values.specs.Timing.{groups, taps_of, form_of};
 ghost use Rattle.net_graph.specs.Grow.{Extends};
 ghost use Rattle.net_graph.specs.WellFormed.{IsBound};
 ghost use Rattle.plan_check.specs.Accepted.{IsAccepted, AreFacts};
 ghost use Rattle.plan_check.specs.Amounts.{gain};
+ghost use Rattle.plan_check.specs.Forms.{group_fits};
 ghost use Rattle.plan_check.specs.Groups.{group_of, filter_of, IsGroup};
 ghost use Rattle.span_ranges.specs.Span.{IsInSpan};
-ghost use Rattle.stage_law.specs.Realises.{Realises, IsUnused};
+ghost use Rattle.stage_law.specs.Realises.{IsUnused};
 ghost use Rattle.stage_law.specs.Streams.{HasRoom};
 ghost use Rattle.width_extreme.specs.Prefix.{IsStream};
 ghost use Rattle.stage_law.specs.Kinds.{is_linear};
@@ -18,22 +19,23 @@ ghost use Rattle.chain_build.specs.Alike.{HasCascades};
 ghost use Rattle.chain_build.specs.Built.{IsBuiltGroup, AreBuiltGroups, kind_of, rounds, has_rounding};
 ghost use Rattle.chain_build.specs.LinearOn.{HasGroupRegisters};
 ghost use Rattle.chain_build.specs.Peaks.{AddsPeaks, HasGroupPeaks, keeps};
-ghost use Rattle.chain_build.specs.Prefixes.{IsExactPrefix, CanTake, streams_before, elements_before};
+ghost use Rattle.chain_build.specs.Prefixes.{IsExactPrefix, CanTake, streams_before, elements_before, flow_before};
 ghost use Rattle.chain_build.specs.Added.{IsTaking, IsGroupAdded, AreNameless, IsChained};
-ghost use Rattle.chain_build.specs.GroupCosts.{AreUngrouped, AreApart, HasCosts};
+ghost use Rattle.chain_build.specs.GroupCosts.{AreUngrouped, HasCosts};
 ghost use Rattle.chain_build.specs.Groups.{IsGroupedTo};
 ghost use Rattle.chain_build.specs.Shapes.{HaveLinearItems};
 
 use crate::cascades::cascade_group;
 use crate::extremes::{LinearPeak, is_linear, keep_peaks};
+use crate::forms::add_filter;
 use crate::prefix::prefix_ranges;
-use mr_values::{Memory, Plan};
+use crate::stages::emit_stage;
+use mr_values::{Form, Memory, Plan};
 use net_graph::{Net, Stream};
 use plan_check::{Facts, FirFilter, GroupFacts, PlanGroup, split_group};
-use polyphase_fir::Polyphase;
 use rounding_stage::Rounding;
 use span_ranges::SpanRanges;
-use stage_law::{Cost, Emitted, Kind, Ranges, Rates, Stage};
+use stage_law::{Cost, Emitted, Kind, Ranges, Rates};
 use std::alloc::Global;
 
 /// The form of a group as a stage, and what it adds to a net.
@@ -58,44 +60,17 @@ pub(crate) struct Chained {
     pub(crate) costs: Vec<GroupCost>,
 }
 
-/// Adds the nodes of a stage.
-pub(crate) fn emit_stage<S: Stage, R: Ranges>(
-    alloc: Global,
-    net: &mut Net,
-    from: Stream,
-    stage: &S,
-    ranges: &R,
-) -> Result<Added, Memory>
-    requires within { from.node.place < length net.old.cells }
-    requires group { 1 ≤ net.old.group }
-    requires unused { IsUnused net.old.cells net.old.group }
-    requires early { from.offset < 2 ^ 31 }
-    requires takes { S.takes stage.now from.period }
-    requires admits { S.admits stage.now (R.streams ranges.now) }
-    requires room { HasRoom (R.streams ranges.now) (S.facts stage.now).gain }
-    ensures realises { IfOk result (λ a. Realises (S.facts stage.now) (R.streams ranges.now) net.old net.new from a.emitted) }
-    ensures kind { IfOk result (λ a. a.cost.kind ≡ (S.facts stage.now).kind) }
-    ensures adders { IfOk result (λ a. a.cost.cost.adders ≡ (S.facts stage.now).adders) }
-    ensures windows { IfOk result (λ a. a.cost.cost.windows ≡ (S.facts stage.now).windows) }
-    ensures tables { IfOk result (λ a. a.cost.cost.tables ≡ (S.facts stage.now).tables) }
-    ensures extends { Extends net.old.cells net.new.cells }
-    ensures same_group { net.new.group ≡ net.old.group }
-{
-    let emitted = stage.emit(alloc, net, from, ranges)?;
-    let cost = GroupCost {
-        kind: stage.kind(),
-        cost: stage.cost(),
-    };
-    Ok(Added { emitted, cost })
-}
-
-// The taps of a group's filter, one tap of 1 where there is none.
-fn filter_taps<'a>(filter: &Option<FirFilter<'a>>) -> &'a [i64]
-    ensures { result.now ≡ taps_of (option_map filter_of filter.now) }
+// The filter of a group, one tap of 1 where there is none.
+fn filter_or_one<'a>(filter: &Option<FirFilter<'a>>) -> FirFilter<'a>
+    ensures taps { result.taps.now ≡ taps_of (option_map filter_of filter.now) }
+    ensures form { result.form ≡ form_of (option_map filter_of filter.now) }
 {
     match filter {
-        Some(filter) => filter.taps,
-        None => &[1],
+        Some(filter) => *filter,
+        None => FirFilter {
+            taps: &[1],
+            form: Form::Parallel,
+        },
     }
 }
 
@@ -105,6 +80,7 @@ fn add_group<R: Ranges>(
     net: &mut Net,
     from: Stream,
     group: &PlanGroup,
+    fact: &GroupFacts,
     ranges: &R,
 ) -> Result<Added, Memory>
     requires within { from.node.place < length net.old.cells }
@@ -114,8 +90,9 @@ fn add_group<R: Ranges>(
     requires built { IsBuiltGroup (group_of group.now) }
     requires limits { IsGroup (group_of group.now) }
     requires takes { IsTaking (group_of group.now) from.period }
+    requires fits { group_fits (group_of group.now) (flow_before from.period fact.now) ≡ true }
     requires room { HasRoom (R.streams ranges.now) (gain (group_of group.now)) }
-    ensures ok { IfOk result (λ a. IsGroupAdded (group_of group.now) (R.streams ranges.now) net.old net.new from a) }
+    ensures ok { IfOk result (λ a. IsGroupAdded (group_of group.now) (flow_before from.period fact.now) (R.streams ranges.now) net.old net.new from a) }
     ensures extends { Extends net.old.cells net.new.cells }
     ensures same_group { net.new.group ≡ net.old.group }
 {
@@ -131,12 +108,10 @@ fn add_group<R: Ranges>(
                 up: group.up(),
                 down: group.down(),
             };
-            let stage = Polyphase::new(alloc, filter_taps(filter), rates)?;
-            let added = emit_stage(alloc, net, from, &stage, ranges)?;
-            Ok(added)
+            add_filter(alloc, net, from, filter_or_one(filter), rates, ranges)
         }
         PlanGroup::CicDown { .. } | PlanGroup::CicUp { .. } => {
-            cascade_group(alloc, net, from, group, ranges)
+            cascade_group(alloc, net, from, group, fact, ranges)
         }
     }
 }
@@ -158,7 +133,7 @@ fn add_exact(
     from: Stream,
     group: &PlanGroup,
     plan: &Plan,
-    taken: usize,
+    fact: &GroupFacts,
     peaks: &mut Vec<LinearPeak>,
 ) -> Result<Added, Memory>
     requires within { from.node.place < length net.old.cells }
@@ -168,15 +143,18 @@ fn add_exact(
     requires built { IsBuiltGroup (group_of group.now) }
     requires limits { IsGroup (group_of group.now) }
     requires takes { IsTaking (group_of group.now) from.period }
-    requires prefix { IsExactPrefix plan.now taken }
-    requires room { HasRoom (IsStream (chain (take taken plan.now.elements)) (size plan.now.width)) (gain (group_of group.now)) }
-    ensures ok { IfOk result (λ a. IsGroupAdded (group_of group.now) (IsStream (chain (take taken plan.now.elements)) (size plan.now.width)) net.old net.new from a) }
+    requires fits { group_fits (group_of group.now) (flow_before from.period fact.now) ≡ true }
+    requires some { 1 ≤ fact.now.first }
+    requires prefix { IsExactPrefix plan.now (fact.now.first - 1) }
+    requires room { HasRoom (IsStream (chain (elements_before plan.now fact.now)) (size plan.now.width)) (gain (group_of group.now)) }
+    ensures ok { IfOk result (λ a. IsGroupAdded (group_of group.now) (flow_before from.period fact.now) (IsStream (chain (elements_before plan.now fact.now)) (size plan.now.width)) net.old net.new from a) }
     ensures extends { Extends net.old.cells net.new.cells }
     ensures same_group { net.new.group ≡ net.old.group }
-    ensures peaks { IfOk result (λ a. AddsPeaks (is_linear (kind_of (group_of group.now))) (size plan.now.width) (take taken plan.now.elements) from taken a.emitted.peaks.items peaks.old.items peaks.new.items) }
+    ensures peaks { IfOk result (λ a. AddsPeaks (is_linear (kind_of (group_of group.now))) (size plan.now.width) (elements_before plan.now fact.now) from (fact.now.first - 1) a.emitted.peaks.items peaks.old.items peaks.new.items) }
 {
+    let taken = fact.first as usize - 1;
     let ranges = prefix_ranges(alloc, plan, taken)?;
-    let added = add_group(alloc, net, from, group, &ranges)?;
+    let added = add_group(alloc, net, from, group, fact, &ranges)?;
     if is_linear(added.cost.kind) {
         keep_peaks(alloc, peaks, &ranges, &added.emitted.peaks, from, taken)?;
     }
@@ -208,15 +186,16 @@ fn add_spanned(
     requires built { IsBuiltGroup (group_of group.now) }
     requires limits { IsGroup (group_of group.now) }
     requires takes { IsTaking (group_of group.now) from.period }
+    requires fits { group_fits (group_of group.now) (flow_before from.period fact.now) ≡ true }
     requires below { fact.now.span_lo ≤ℤ pos 0 }
     requires above { pos 0 ≤ℤ fact.now.span_hi }
     requires room { HasRoom (IsInSpan fact.now.span_lo fact.now.span_hi) (gain (group_of group.now)) }
-    ensures ok { IfOk result (λ a. IsGroupAdded (group_of group.now) (IsInSpan fact.now.span_lo fact.now.span_hi) net.old net.new from a) }
+    ensures ok { IfOk result (λ a. IsGroupAdded (group_of group.now) (flow_before from.period fact.now) (IsInSpan fact.now.span_lo fact.now.span_hi) net.old net.new from a) }
     ensures extends { Extends net.old.cells net.new.cells }
     ensures same_group { net.new.group ≡ net.old.group }
 {
     let ranges = ranges_before(fact);
-    let added = add_group(alloc, net, from, group, &ranges)?;
+    let added = add_group(alloc, net, from, group, fact, &ranges)?;
     Ok(added)
 }
 
@@ -238,8 +217,9 @@ fn add_next(
     requires built { IsBuiltGroup (group_of group.now) }
     requires limits { IsGroup (group_of group.now) }
     requires takes { IsTaking (group_of group.now) from.period }
+    requires fits { group_fits (group_of group.now) (flow_before from.period fact.now) ≡ true }
     requires can_take { CanTake plan.now fact.now (group_of group.now) rounded }
-    ensures ok { IfOk result (λ a. IsGroupAdded (group_of group.now) (streams_before rounded (size plan.now.width) (elements_before plan.now fact.now) fact.now.span_lo fact.now.span_hi) net.old net.new from a) }
+    ensures ok { IfOk result (λ a. IsGroupAdded (group_of group.now) (flow_before from.period fact.now) (streams_before rounded (size plan.now.width) (elements_before plan.now fact.now) fact.now.span_lo fact.now.span_hi) net.old net.new from a) }
     ensures extends { Extends net.old.cells net.new.cells }
     ensures same_group { net.new.group ≡ net.old.group }
     ensures peaks { IfOk result (λ a. AddsPeaks (keeps rounded (group_of group.now)) (size plan.now.width) (elements_before plan.now fact.now) from (fact.now.first - 1) a.emitted.peaks.items peaks.old.items peaks.new.items) }
@@ -247,8 +227,7 @@ fn add_next(
     if rounded {
         add_spanned(alloc, net, from, group, fact)
     } else {
-        let taken = fact.first as usize - 1;
-        add_exact(alloc, net, from, group, plan, taken, peaks)
+        add_exact(alloc, net, from, group, plan, fact, peaks)
     }
 }
 
@@ -274,7 +253,7 @@ pub(crate) fn add_groups(
     ensures ok { IfOk result (λ c. IsChained (size plan.now.width) (size plan.now.ticks) plan.now.elements net.old net.new from c.stream) }
     ensures rounded { IfOk result (λ c. c.rounded ≡ has_rounding (groups plan.now.elements)) }
     ensures registers { IfOk result (λ _. HasGroupRegisters (size plan.now.width) (size plan.now.ticks) plan.now.elements net.new.cells from) }
-    ensures costs { IfOk result (λ c. AreApart net.new.cells → HasCosts (groups plan.now.elements) c.costs.items net.new.cells) }
+    ensures costs { IfOk result (λ c. HasCosts (groups plan.now.elements) c.costs.items net.new.cells) }
     ensures peaks { IfOk result (λ _. HasGroupPeaks (size plan.now.width) (size plan.now.ticks) plan.now.elements net.new.cells peaks.new.items) }
     ensures cascades { IfOk result (λ _. HasCascades (size plan.now.width) (size plan.now.ticks) plan.now.elements net.new.cells) }
     ensures shapes { IfOk result (λ _. HaveLinearItems 1 (groups plan.now.elements) net.new.cells) }

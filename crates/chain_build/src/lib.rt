@@ -4,13 +4,14 @@
 mod cascades;
 mod chain;
 mod extremes;
+mod forms;
 mod groups;
+mod mirrored;
 mod output;
+mod parallel;
 mod prefix;
+mod stages;
 
 pub use chain::{Built, build, can_build};
 pub use extremes::{RegisterExtreme, RegisterSamples, register_extreme};
 pub use groups::GroupCost;
-
-#[cfg(test)]
-mod tests;

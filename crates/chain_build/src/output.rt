@@ -1,17 +1,14 @@
 // The outputs of a net.
 
-ghost use Rattle.std.specs.Prelude.{◌≡◌, ◌+◌, ◌≤◌, ◌<◌, ◌^◌, length, IfOk};
-ghost use Rattle.mr_values.specs.Width.{IsLeastWidth};
-ghost use Rattle.net_graph.specs.WellFormed.{IsWidth, IsFree};
+ghost use Rattle.std.specs.Prelude.{◌≤◌, ◌<◌, ◌^◌, length, IfOk};
+ghost use Rattle.net_graph.specs.WellFormed.{IsFree};
 ghost use Rattle.net_graph.specs.declared.name.NameKind.TheVariants.{Output, Valid};
-ghost use Rattle.net_graph.specs.Grow.{Extends};
-ghost use Rattle.pipeline_balance.specs.Gate.{IsTickOf};
 ghost use Rattle.pipeline_balance.specs.Numbered.{name_of};
-ghost use Rattle.chain_build.specs.Output.{IsCutTo, AddsOutputs};
+ghost use Rattle.chain_build.specs.Output.{AddsOutputs};
 
-use mr_values::{Memory, least_width};
-use net_graph::{Name, NameKind, Net, Node, Stream};
-use pipeline_balance::{counter, gate_of, taking_register};
+use mr_values::Memory;
+use net_graph::{Net, Node, Stream};
+use net_outputs::{output_register, shown_bit};
 use stage_law::Range;
 use std::alloc::Global;
 
@@ -20,29 +17,6 @@ use std::alloc::Global;
 pub(crate) struct Outputs {
     pub(crate) out_q: Node,
     pub(crate) out_valid: Node,
-}
-
-// The node cut to a width.
-fn cut_to(net: &mut Net, node: Node, width: u8) -> Result<Node, Memory>
-    requires within { node.place < length net.old.cells }
-    requires data_group { 1 ≤ net.old.group }
-    requires wide { IsWidth width }
-    ensures ok { IfOk result (IsCutTo net.old net.new node width) }
-    ensures extends { Extends net.old.cells net.new.cells }
-    ensures group { net.new.group ≡ net.old.group }
-{
-    if net.width(node) == width {
-        return Ok(node);
-    }
-    let to = net.shl(node, 0, width)?;
-    Ok(to)
-}
-
-/// The least number of bits that holds the range.
-pub(crate) fn range_width(range: Range) -> u8
-    ensures { IsLeastWidth range.lo range.hi result }
-{
-    least_width(range.lo, range.hi)
 }
 
 /// Adds the output register, which takes the stream at its ticks and is as wide as the range needs, and the bit that is set where the
@@ -61,26 +35,7 @@ pub(crate) fn add_outputs(
     requires free_valid { IsFree net.old.cells (name_of 0 Valid 0) }
     ensures ok { IfOk result (AddsOutputs range.lo range.hi net.old net.new from) }
 {
-    let width = range_width(range);
-    let node = cut_to(net, from.node, width)?;
-    let end = Stream {
-        node,
-        period: from.period,
-        offset: from.offset,
-    };
-    let gate = gate_of(alloc, net, end)?;
-    let output_name = Name {
-        group: 0,
-        kind: NameKind::Output,
-        number: 0,
-    };
-    let out_q = taking_register(net, output_name, end, gate)?;
-    let out_valid = counter(alloc, net, from.period, from.offset + 1)?;
-    let valid_name = Name {
-        group: 0,
-        kind: NameKind::Valid,
-        number: 0,
-    };
-    net.name_node(out_valid, valid_name);
+    let out_q = output_register(alloc, net, from, range)?;
+    let out_valid = shown_bit(alloc, net, from.period, from.offset + 1)?;
     Ok(Outputs { out_q, out_valid })
 }

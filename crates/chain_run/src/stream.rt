@@ -2,7 +2,7 @@
 ghost use Rattle.std.specs.Prelude.{◌≡◌, ◌≤◌, ◌<◌, ◌+◌, ◌*◌, ◌^◌, ℕ, List, true, false, length, IfOk, OnOk};
 ghost use Rattle.mr_values.specs.declared.plan.Element.{Element};
 ghost use Rattle.verilog_tree.specs.View.{design_view};
-ghost use Rattle.clock_sim.specs.Sim.{IsSound};
+ghost use Rattle.verilog_tree.specs.Checks.{Passes};
 ghost use Rattle.filter_text.specs.Headline.{ShowsChain};
 ghost use Rattle.row_stream.specs.Giving.{Giving, GivesSome, Takes, Closes};
 ghost use Rattle.chain_run.specs.Outputs.{IsTiming, GivesRun};
@@ -12,6 +12,7 @@ ghost use Rattle.chain_run.specs.Ends.{DueEnds, RowCloses};
 use crate::ticks::{run_sample, run_zeros};
 use crate::timing::ChainTiming;
 use clock_sim::Sim;
+use formed_module::FormedModule;
 use module_laws::law_of_runs;
 use mr_values::Memory;
 use row_stream::{FULL, RowStream, StreamFault};
@@ -19,7 +20,6 @@ use sample_file::Lines;
 use sim_stream::zero_sim;
 use std::alloc::Global;
 use std::marker::Model;
-use verilog_tree::Module;
 
 /// A run of a plan's module, in the midst of its samples.
 #[derive(Drop)]
@@ -47,14 +47,14 @@ impl<'a> Model for ChainStream<'a> {
 }
 
 impl<'a> ChainStream<'a> {
-    /// A run of a module after one reset cycle, before its samples. Fails only for want of memory. Where the module shows a chain at these
+    /// A run of a module that passes the checks, after one reset cycle, before its samples. Fails only for want of memory. Where the module shows a chain at these
     /// ticks, the run gives for the bytes of a file the values of the chain that belong to their samples.
     pub fn start(
         alloc: Global,
-        design: &'a Module,
+        design: &'a FormedModule,
         timing: ChainTiming,
     ) -> Result<ChainStream<'a>, Memory>
-        requires sound { IsSound (design_view design.now) }
+        requires passes { Passes (design_view design.now) }
         requires timing { IsTiming timing }
         requires takes { TakesSamples (design_view design.now) timing.width }
         ensures { IfOk result (λ stream. (elements : List Element) → ShowsChain elements timing.width timing.ticks timing.latency timing.period (design_view design.now) → GivesRun elements timing (GivesFrom stream)) }

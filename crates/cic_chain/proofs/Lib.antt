@@ -5,6 +5,7 @@ pub mod PieceLemmas
 pub mod RealisesLemmas
 pub mod RegisterLemmas
 pub mod RowLemmas
+pub mod CombLemmas
 pub mod SampleLemmas
 pub mod SilentLemmas
 pub mod StepLemmas

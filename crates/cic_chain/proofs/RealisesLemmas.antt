@@ -65,6 +65,7 @@ Realises-piece {old} {new} {from} {to} streams facts emitted is not_linear data_
   adders = let a = p.adds in omega (arith, a, adders);
   windows = let n = p.named.windows old.group in omega (arith, n, windows);
   tables = let n = p.named.tables old.group in omega (arith, n, tables);
+  own_tables = λ some. absurd (omega (arith, some, tables));
   names = record { free = λ name other f. p.names.free name (λ h. other (own_register old.group name h)) f };
   shallow = λ bound none. p.shallow (IsShallow-none old.cells old.group bound none) (IsPlain-untouched old.cells old.group from.node.place none inside);
   shapes = λ kind. p.linear.each old.group data_group;

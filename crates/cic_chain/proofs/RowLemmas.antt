@@ -1,5 +1,5 @@
--- Integrators in a row, and combs in a row.
-use Rattle.std.proofs.Common.{◌≡◌, ℕ, suc, ◌+◌, ◌-◌, ◌*◌, ◌<◌, ◌≤◌, ◌≢◌, ◌⊎◌, inl, inr, List, length, set, refl, sym, ◌∙◌, ap, arith, Option, subst, ℤ, pos, negsuc, ◌-ℤ◌, Bool, true, false}
+-- Integrators in a row, and the registers of one comb.
+use Rattle.std.proofs.Common.{◌≡◌, ℕ, zero, suc, ◌+◌, ◌-◌, ◌*◌, ◌<◌, ◌≤◌, ◌≢◌, ◌⊎◌, inl, inr, List, length, set, refl, sym, ◌∙◌, ap, arith, Option, subst, ℤ, pos, negsuc, ◌-ℤ◌, Bool, true, false}
 use Rattle.std.proofs.Math.Path.{fun_ext}
 use Rattle.std.proofs.lemmas.Bool.{cases_lt}
 use Rattle.std.proofs.lemmas.Int.{ints}
@@ -26,10 +26,10 @@ use Rattle.pipeline_balance.proofs.CostLemmas.{SameNamed-trans, SameNamed-adds}
 use Rattle.pipeline_balance.proofs.NumberedLemmas.{free_adds, IsCounted-leaves}
 use Rattle.pipeline_balance.proofs.ShapeLemmas.{KeepsShapes-trans, KeepsShapes-adds}
 use Rattle.pipeline_balance.proofs.TakenLemmas.{IsGate-later}
-use Rattle.cic_chain.specs.Cascade.{integrator, earlier, comb, integrators, combs}
-use Rattle.cic_chain.specs.Pieces.{IsPiece, AddsHeld, AddsIntegrator, AddsIntegrators, HoldsSums, node_at, AddsRow, AddsComb, AddsCombs, sampled, at_ticks}
+use Rattle.cic_chain.specs.Cascade.{integrator, earlier, comb, integrators}
+use Rattle.cic_chain.specs.Pieces.{IsPiece, AddsHeld, AddsIntegrator, AddsIntegrators, HoldsSums, HoldsEarlier, node_at, AddsRow, AddsComb, sampled, at_ticks, after_ticks}
 use Rattle.stage_law.proofs.AlikeLemmas.{HasRegister-later}
-use Rattle.cic_chain.proofs.PieceLemmas.{IsPiece-none, IsPiece-gate, IsPiece-then, IsPiece-counts}
+use Rattle.cic_chain.proofs.PieceLemmas.{IsPiece-gate, IsPiece-then, IsPiece-counts}
 use Rattle.cic_chain.proofs.SampleLemmas.{cut_zero, integrator-shift, integrators-causal, comb-causal, sampled-causal, steps_kept, held_before, summed_before}
 
 -- ---- integrators
@@ -127,12 +127,15 @@ pub record IsDelayed (old new : NetView) (from : Stream) (gate : Option Node) (w
   pub piece : IsPiece old new from.node last width count 0
   pub is_gate : IsGate new.cells from.period from.offset gate
   pub before : (cut : Cut) → IsCut cut → (inputs : ℕ → ℤ) (values : Values) → IsRun cut new.cells inputs values → (n : ℤ) → sampled values (at_ticks from last) n ≡ earlier (cut false width) count (sampled values from) n
+  pub kept : 1 ≤ count → (cut : Cut) → IsCut cut → (inputs : ℕ → ℤ) (values : Values) → IsRun cut new.cells inputs values
+      → (t n : ℕ) → HasTaken from.period from.offset n t → values t last.place ≡ values (from.offset + n * from.period) last.place
 
 pub IsDelayed-start : {old new : NetView} {gate : Option Node} (from : Stream) (width : ℕ) → 1 ≤ old.group → from.node.place < length old.cells → AddsGate old new from.period from.offset gate → IsDelayed old new from gate width 0 from.node
 IsDelayed-start from width some inside g = record {
   piece = IsPiece-gate from.node width some inside g;
   is_gate = g.is_gate;
   before = λ cut law inputs values run n. itself values from n;
+  kept = λ h. absurd (omega arith);
 }
 
 pub IsDelayed-more : {old mid new : NetView} {gate : Option Node} {last to : Node} {count : ℕ} (from : Stream) (width : ℕ) → 1 ≤ from.period → 1 ≤ width → IsDelayed old mid from gate width count last → AddsHeld mid new (at_ticks from last) width to → IsDelayed old new from gate width (count + 1) to
@@ -144,7 +147,39 @@ IsDelayed-more {old} {mid} {new} {gate} {last} {to} {count} from width positive 
       held_before (at_ticks from last) positive width wide cut law inputs values run to a.steps n
       ∙ ap (cut false width) (p.before cut law inputs values (a.piece.grows.extends.runs cut law inputs values run) (n -ℤ pos 1))
       ∙ ap (λ (k : ℕ). earlier (cut false width) k (sampled values from) n) next;
+  kept = λ some cut law inputs values run t n h. steps_kept a.steps positive cut law inputs values run t n h;
 }
+
+-- the first registers of a delay hold their values
+pub record AreDelays (cells : List Cell) (from : Stream) (width count : ℕ) (registers : List Node) : Type 0 where
+  pub each : (age : ℕ) → age < count → HoldsEarlier cells from width (suc age) (node_at registers age)
+
+pub AreDelays-none : (cells : List Cell) (from : Stream) (width : ℕ) (registers : List Node) → AreDelays cells from width 0 registers
+AreDelays-none cells from width registers = record { each = λ age less. absurd (omega arith) }
+
+HoldsEarlier-later : {old new : List Cell} {from : Stream} {width count : ℕ} {node : Node} → Extends old new → HoldsEarlier old from width count node → HoldsEarlier new from width count node
+HoldsEarlier-later e h = record { earlier_value = λ cut law inputs values run t taken is. h.earlier_value cut law inputs values (e.runs cut law inputs values run) t taken is }
+
+pub AreDelays-later : {old new : List Cell} {from : Stream} {width count : ℕ} {registers : List Node} → Extends old new → AreDelays old from width count registers → AreDelays new from width count registers
+AreDelays-later e h = record { each = λ age less. HoldsEarlier-later e (h.each age less) }
+
+pub AreDelays-more : {cells : List Cell} {old new : NetView} {gate : Option Node} {from : Stream} {width count : ℕ} {to : Node} {registers : List Node} → count < length registers → Extends cells new.cells
+    → AreDelays cells from width count registers → IsDelayed old new from gate width (count + 1) to → AreDelays new.cells from width (count + 1) (set registers count to)
+AreDelays-more {cells} {old} {new} {gate} {from} {width} {count} {to} {registers} room e h last = record { each = λ age less. at age less (cases_lt age count) }
+  where
+    here : node_at (set registers count to) count ≡ to
+    here = get_or-set_same registers count to (record { place = 0 }) room
+
+    at : (age : ℕ) → age < count + 1 → (age < count) ⊎ (count ≤ age) → HoldsEarlier new.cells from width (suc age) (node_at (set registers count to) age)
+    at age less (inl early) =
+        let other : age ≢ count = λ same. absurd (omega (arith, same, early)) in
+        subst (HoldsEarlier new.cells from width (suc age)) (sym (get_or-set_other registers count age to (record { place = 0 }) other)) (HoldsEarlier-later e (h.each age early))
+    at age less (inr last_one) =
+        let same : count ≡ age = omega arith in
+        let next : count + 1 ≡ suc age = omega arith in
+        let holds : HoldsEarlier new.cells from width (count + 1) to = record { earlier_value = λ cut law inputs values run t n is. last.kept (omega arith) cut law inputs values run t n is ∙ last.before cut law inputs values run (pos n) } in
+        subst (λ (k : ℕ). HoldsEarlier new.cells from width (suc age) (node_at (set registers count to) k)) same
+        (subst (HoldsEarlier new.cells from width (suc age)) (sym here) (subst (λ (k : ℕ). HoldsEarlier new.cells from width k to) next holds))
 
 -- the difference of the stream and of its delay
 sub_piece : {old mid new : NetView} {from last difference : Node} {width registers : ℕ} → 1 ≤ old.group → from.place < length old.cells → IsPiece old mid from last width registers 0 → Adds mid new difference width (Sub from last) → IsPiece old new from from width registers 1
@@ -171,9 +206,11 @@ sub_piece {old} {mid} {new} {from} {last} {difference} {width} {registers} some 
       linear = KeepsShapes-trans p.linear (KeepsShapes-adds a tt);
     }
 
-pub AddsComb-circuit : {old mid sub new : NetView} {gate : Option Node} {last difference to : Node} (from : Stream) (width delay : ℕ) → 1 ≤ from.period → 1 ≤ width → 1 ≤ old.group → from.node.place < length old.cells → IsDelayed old mid from gate width delay last
-    → Adds mid sub difference width (Sub from.node last) → AddsHeld sub new (at_ticks from difference) width to → AddsComb old new from width delay (record { node = to; period = from.period; offset = from.offset + 1 })
-AddsComb-circuit {old} {mid} {sub} {new} {gate} {last} {difference} {to} from width delay positive wide some inside p s a =
+pub AddsComb-circuit : {old mid sub new : NetView} {gate : Option Node} {last difference to : Node} {delays : List Node} (from : Stream) (width delay : ℕ) → 1 ≤ from.period → 1 ≤ width → 1 ≤ old.group → from.node.place < length old.cells → IsDelayed old mid from gate width delay last
+    → AreDelays mid.cells from width delay delays → Adds mid sub difference width (Sub from.node last) → AddsHeld sub new (at_ticks from difference) width to → AddsComb old new from width delay (record { delays = delays; difference = to })
+AddsComb-circuit {old} {mid} {sub} {new} {gate} {last} {difference} {to} {delays} from width delay positive wide some inside p d s a =
+    let some_mid : 1 ≤ mid.group = rw p.piece.grows.group some in
+    let more : Grows mid sub = Grows-data {item = Sub from.node last} some_mid s refl in
     let first = sub_piece some inside p.piece s in
     let second : IsPiece sub new from.node to width 1 0 = record {
       grows = a.piece.grows;
@@ -187,47 +224,35 @@ AddsComb-circuit {old} {mid} {sub} {new} {gate} {last} {difference} {to} from wi
       plain = λ shallow plain. a.plain;
       linear = a.piece.linear;
     } in
+    let whole : Grows mid new = Grows-trans more a.piece.grows in
     record {
       piece = IsPiece-counts refl (omega arith) (IsPiece-then first second);
-      period = refl;
-      offset = refl;
+      delays = (AreDelays-later whole.extends d).each;
+      holds = hold;
       differs = at;
     }
   where
-    at : (cut : Cut) → IsCut cut → (inputs : ℕ → ℤ) (values : Values) → IsRun cut new.cells inputs values → (n : ℤ) → sampled values (record { node = to; period = from.period; offset = from.offset + 1 }) n ≡ comb (cut false width) delay (sampled values from) n
-    at cut law inputs values run (pos m) =
+    hold : (cut : Cut) → IsCut cut → (inputs : ℕ → ℤ) (values : Values) → IsRun cut new.cells inputs values → (t taken : ℕ) → HasTaken from.period from.offset taken t → values t to.place ≡ comb (cut false width) delay (sampled values from) (pos taken -ℤ pos 1)
+    hold cut law inputs values run t zero taken =
+        let before : pos 0 -ℤ pos 1 ≡ negsuc 0 = omega (arith, ints) in
+        a.steps.holds cut law inputs values run t 0 taken ∙ sym (ap (comb (cut false width) delay (sampled values from)) before ∙ comb-causal (cut false width) (cut_zero cut law width wide) delay (sampled values from) (sampled-causal values from) 0)
+    hold cut law inputs values run t (suc m) taken =
         let c = cut false width in
         let x : Sequence = sampled values from in
         let u : ℕ = from.offset + m * from.period in
-        let taken : HasTaken from.period from.offset (suc m) (from.offset + 1 + m * from.period) = (omega arith, omega arith) in
         let sub_run = a.piece.grows.extends.runs cut law inputs values run in
         let some_mid : 1 ≤ mid.group = rw p.piece.grows.group some in
         let difference_is : values u difference.place ≡ c (values u from.node.place -ℤ values u last.place) =
         sub_run.each difference.place _ (cell_of_added s) u ∙ ap (λ (b : Bool). cut b width (values u from.node.place -ℤ values u last.place)) (nameless_data mid.group true some_mid) in
         let mid_run = (Grows-data {item = Sub from.node last} some_mid s refl).extends.runs cut law inputs values sub_run in
-        a.steps.holds cut law inputs values run (from.offset + 1 + m * from.period) (suc m) taken
+        let at_m : pos (suc m) -ℤ pos 1 ≡ pos m = omega (arith, ints) in
+        a.steps.holds cut law inputs values run t (suc m) taken
         ∙ ap c difference_is ∙ law.again false width _ wide
-        ∙ ap (λ (z : ℤ). c (x (pos m) -ℤ z)) (p.before cut law inputs values mid_run (pos m))
+        ∙ ap (λ (z : ℤ). c (x (pos m) -ℤ z)) (p.before cut law inputs values mid_run (pos m)) ∙ ap (comb c delay x) (sym at_m)
+
+    at : (cut : Cut) → IsCut cut → (inputs : ℕ → ℤ) (values : Values) → IsRun cut new.cells inputs values → (n : ℤ) → sampled values (after_ticks from 1 to) n ≡ comb (cut false width) delay (sampled values from) n
+    at cut law inputs values run (pos m) =
+        let taken : HasTaken from.period from.offset (suc m) (from.offset + 1 + m * from.period) = (omega arith, omega arith) in
+        let at_m : pos (suc m) -ℤ pos 1 ≡ pos m = omega (arith, ints) in
+        hold cut law inputs values run (from.offset + 1 + m * from.period) (suc m) taken ∙ ap (comb (cut false width) delay (sampled values from)) at_m
     at cut law inputs values run (negsuc m) = sym (comb-causal (cut false width) (cut_zero cut law width wide) delay (sampled values from) (sampled-causal values from) m)
-
--- ---- combs
-
-pub AddsCombs-none : (net : NetView) (from : Stream) (width delay : ℕ) → from.node.place < length net.cells → AddsCombs net net from width 0 delay from
-AddsCombs-none net from width delay inside = record {
-  piece = IsPiece-counts (omega arith) refl (IsPiece-none net from.node width inside);
-  period = refl;
-  offset = omega arith;
-  differs = λ cut law inputs values run n. refl;
-}
-
-pub AddsCombs-more : {old mid new : NetView} {last to : Stream} {count : ℕ} (from : Stream) (width delay : ℕ) → AddsCombs old mid from width count delay last → AddsComb mid new last width delay to → AddsCombs old new from width (count + 1) delay to
-AddsCombs-more {old} {mid} {new} {last} {to} {count} from width delay p a = record {
-  piece = IsPiece-counts (omega arith) refl (IsPiece-then p.piece a.piece);
-  period = a.period ∙ p.period;
-  offset = a.offset ∙ ap (λ (k : ℕ). k + 1) p.offset ∙ omega arith;
-  differs = λ cut law inputs values run n.
-      let before : sampled values last ≡ combs (cut false width) count delay (sampled values from) = fun_ext (p.differs cut law inputs values (a.piece.grows.extends.runs cut law inputs values run)) in
-      let next : suc count ≡ count + 1 = omega arith in
-      a.differs cut law inputs values run n ∙ ap (λ (y : Sequence). comb (cut false width) delay y n) before
-      ∙ ap (λ (k : ℕ). combs (cut false width) k delay (sampled values from) n) next;
-}

@@ -23,7 +23,7 @@ use Rattle.net_graph.proofs.CellLemmas.{cell_at-there, same_cell}
 use Rattle.net_graph.proofs.CountLemmas.{adders_more, adders_register, adders_bind}
 use Rattle.net_graph.proofs.DepthLemmas.{IsPlain-later, TakesPlain-later}
 use Rattle.net_graph.proofs.GroupLemmas.{nameless_data}
-use Rattle.net_graph.proofs.GrowLemmas.{GrowsBut, GrowsBut-register, GrowsBut-adds, GrowsBut-unbound, Grows-bind, Extends-grown, cell_of_grown}
+use Rattle.net_graph.proofs.GrowLemmas.{named_own, GrowsBut, GrowsBut-register, GrowsBut-adds, GrowsBut-unbound, Grows-bind, Extends-grown, cell_of_grown}
 use Rattle.net_graph.proofs.NetLemmas.{Extends-refl, Extends-trans, Extends-adds, IsRun-keeps, cell_of_added}
 use Rattle.pipeline_balance.specs.Costs.{SameAdders, SameNamed}
 use Rattle.pipeline_balance.specs.Gate.{IsGate, HasTaken, taken_value}
@@ -94,7 +94,7 @@ module _ (old mid last new : NetView) (gate : Option Node) (node register next :
   all_but = next_grows mid last node register next width old (own_cell old.group number width) gate mid_some begun.but x
 
   pub circuit_grows : Grows old new
-  circuit_grows = Grows-bind all_but begun.wide b (λ is. absurd (cc))
+  circuit_grows = Grows-bind (named_own (own_cell old.group number width) (name_of old.group Register number) refl refl begun.some) all_but begun.wide b (λ is. absurd (cc))
 
   pub circuit_register : IsRegister new.cells register.place old.group (name_of old.group Register number) width
   circuit_register = record { cell = _; there = cell_of_grown all_but b; of_group = refl; named = refl; wide = refl; registered = (next, refl) }

@@ -1,5 +1,5 @@
 -- The pieces of a cascade in a net.
-use Rattle.std.specs.Prelude.{◌≡◌, ℕ, ◌+◌, ◌-◌, ◌*◌, ◌<◌, false, ℤ, pos, negsuc, ◌+ℤ◌, ◌-ℤ◌, List, length, get_or, suc, Option, Some, None}
+use Rattle.std.specs.Prelude.{◌≡◌, ℕ, ◌+◌, ◌-◌, ◌*◌, ◌<◌, false, ℤ, pos, negsuc, ◌+ℤ◌, ◌-ℤ◌, List, [], length, get_or, suc, Option, Some, None}
 use Rattle.mr_values.specs.Sequence.{Sequence, up}
 use Rattle.net_graph.specs.declared.cell.Cell.{Cell}
 use Rattle.net_graph.specs.declared.cell.Node.{Node}
@@ -17,7 +17,8 @@ use Rattle.pipeline_balance.specs.Gate.{HasTaken, taken_value, shown}
 use Rattle.pipeline_balance.specs.Shapes.{KeepsShapes}
 use Rattle.pipeline_balance.specs.Numbered.{IsCounted, IsTouched, LeavesFree}
 use Rattle.stage_law.specs.Alike.{HasRegister}
-use Rattle.cic_chain.specs.Cascade.{integrators, comb, combs, decimator, interpolator}
+use Rattle.cic_chain.specs.Cascade.{integrators, earlier, comb, combs, decimator, interpolator}
+use Rattle.cic_chain.specs.declared.cascades.Comb.{Comb}
 
 -- The new net leads from one node to another by so many registers of this width, numbered on from the first free number, and so many
 -- adders. No adder stands before another where none stands before `from`, and then none stands before `to`. What is added may stand in a
@@ -85,12 +86,24 @@ pub record AddsRow (old new : NetView) (from : Stream) (width stages : ℕ) (reg
   pub last : AddsIntegrators old new from width stages (node_at registers (stages - 1))
   pub each : (stage : ℕ) → stage < stages → HoldsSums new.cells from width (suc stage) (node_at registers stage)
 
--- the new net has a stream of the comb of the values, one tick later
-pub record AddsComb (old new : NetView) (from : Stream) (width delay : ℕ) (to : Stream) : Type 0 where
-  pub piece : IsPiece old new from.node to.node width (delay + 1) 1
-  pub period : to.period ≡ from.period
-  pub offset : to.offset ≡ from.offset + 1
-  pub differs : (cut : Cut) → IsCut cut → (inputs : ℕ → ℤ) (values : Values) → IsRun cut new.cells inputs values → (n : ℤ) → sampled values to n ≡ comb (cut false width) delay (sampled values from) n
+-- a node so many ticks after those of a stream
+abbrev pub after_ticks : Stream → ℕ → Node → Stream
+after_ticks from ticks node = record { node = node; period = from.period; offset = from.offset + ticks }
+
+-- at each tick before which so many values were taken, the node has the value that came so many before the next, in every run, cut or uncut
+pub record HoldsEarlier (cells : List Cell) (from : Stream) (width count : ℕ) (node : Node) : Type 0 where
+  pub earlier_value : (cut : Cut) → IsCut cut → (inputs : ℕ → ℤ) (values : Values) → IsRun cut cells inputs values
+      → (t taken : ℕ) → HasTaken from.period from.offset taken t → values t node.place ≡ earlier (cut false width) count (sampled values from) (pos taken)
+
+-- The new net has the registers of a comb: those of its delay, newest value first, and that of the difference, which has the comb of the
+-- values a tick later and at each tick that of the last value taken.
+pub record AddsComb (old new : NetView) (from : Stream) (width delay : ℕ) (registers : Comb delay) : Type 0 where
+  pub piece : IsPiece old new from.node registers.difference width (delay + 1) 1
+  pub delays : (age : ℕ) → age < delay → HoldsEarlier new.cells from width (suc age) (node_at registers.delays age)
+  pub holds : (cut : Cut) → IsCut cut → (inputs : ℕ → ℤ) (values : Values) → IsRun cut new.cells inputs values
+      → (t taken : ℕ) → HasTaken from.period from.offset taken t → values t registers.difference.place ≡ comb (cut false width) delay (sampled values from) (pos taken -ℤ pos 1)
+  pub differs : (cut : Cut) → IsCut cut → (inputs : ℕ → ℤ) (values : Values) → IsRun cut new.cells inputs values
+      → (n : ℤ) → sampled values (after_ticks from 1 registers.difference) n ≡ comb (cut false width) delay (sampled values from) n
 
 -- the new net has a stream of what so many combs make of the values, one tick later for each
 pub record AddsCombs (old new : NetView) (from : Stream) (width stages delay : ℕ) (to : Stream) : Type 0 where
@@ -99,6 +112,23 @@ pub record AddsCombs (old new : NetView) (from : Stream) (width stages delay : �
   pub offset : to.offset ≡ from.offset + stages
   pub differs : (cut : Cut) → IsCut cut → (inputs : ℕ → ℤ) (values : Values) → IsRun cut new.cells inputs values
       → (n : ℤ) → sampled values to n ≡ combs (cut false width) stages delay (sampled values from) n
+
+-- a comb of a list by its place, one of the node at place 0 behind the last
+abbrev pub comb_at : {delay : ℕ} → List (Comb delay) → ℕ → Comb delay
+comb_at {delay} each at = get_or each at (record { delays = []; difference = record { place = 0 } })
+
+-- In every run, cut or uncut, the comb with so many others before it holds its values at each tick: the registers of its delay those that
+-- came before the next, and the register of its difference that of the last value taken.
+pub record HoldsComb (cells : List Cell) (from : Stream) (width stage delay : ℕ) (registers : Comb delay) : Type 0 where
+  pub delays : (age : ℕ) → age < delay → (cut : Cut) → IsCut cut → (inputs : ℕ → ℤ) (values : Values) → IsRun cut cells inputs values → (t taken : ℕ) → HasTaken from.period (from.offset + stage) taken t
+      → values t (node_at registers.delays age).place ≡ earlier (cut false width) (suc age) (combs (cut false width) stage delay (sampled values from)) (pos taken)
+  pub difference : (cut : Cut) → IsCut cut → (inputs : ℕ → ℤ) (values : Values) → IsRun cut cells inputs values → (t taken : ℕ) → HasTaken from.period (from.offset + stage) taken t
+      → values t registers.difference.place ≡ combs (cut false width) (suc stage) delay (sampled values from) (pos taken -ℤ pos 1)
+
+-- the new net has these combs in a row, each of which holds what it and those before it make of the values, and the stream of the last one
+pub record AddsCombRow (old new : NetView) (from : Stream) (width stages delay : ℕ) (each : List (Comb delay)) (to : Stream) : Type 0 where
+  pub row : AddsCombs old new from width stages delay to
+  pub holds : (stage : ℕ) → stage < stages → HoldsComb new.cells from width stage delay (comb_at each stage)
 
 -- the new net has a stream with so many times as many values, of which all but every `factor`-th are 0
 pub record AddsStuffed (old new : NetView) (from : Stream) (width factor : ℕ) (to : Stream) : Type 0 where

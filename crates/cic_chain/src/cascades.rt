@@ -3,7 +3,7 @@
 ghost use Rattle.std.specs.Prelude.{◌≡◌, ◌<◌, ◌≤◌, ◌^◌, length, IfOk};
 ghost use Rattle.net_graph.specs.Grow.{Extends};
 ghost use Rattle.net_graph.specs.WellFormed.{IsWidth};
-ghost use Rattle.cic_chain.specs.Pieces.{AddsRow, AddsComb, AddsCombs};
+ghost use Rattle.cic_chain.specs.Pieces.{AddsRow, AddsComb, AddsCombRow};
 
 use crate::registers::{held, integrator};
 use mr_values::Memory;
@@ -42,68 +42,88 @@ pub(crate) fn integrators<const N: usize>(
     Ok(registers)
 }
 
-// The difference of a stream and of its value so many values before, a tick later.
-fn comb(
+/// The registers of a comb: those of its delay, the one with the newest value first, and that of the difference.
+#[derive(Clone, Copy)]
+pub(crate) struct Comb<const D: usize> {
+    pub(crate) delays: [Node; D],
+    pub(crate) difference: Node,
+}
+
+// The comb of a stream and of its value D values before, whose difference stands in its register a tick later.
+fn add_comb<const D: usize>(
     alloc: Global,
     net: &mut Net,
     from: Stream,
-    delay: usize,
     width: u8,
-) -> Result<Stream, Memory>
+) -> Result<Comb<D>, Memory>
     requires within { from.node.place < length net.old.cells }
     requires data_group { 1 ≤ net.old.group }
     requires positive { 1 ≤ from.period }
-    requires early { from.offset < 2 ^ 63 }
     requires wide { IsWidth width }
-    ensures ok { IfOk result (AddsComb net.old net.new from width delay) }
+    ensures ok { IfOk result (AddsComb net.old net.new from width D) }
     ensures extends { Extends net.old.cells net.new.cells }
     ensures group { net.new.group ≡ net.old.group }
 {
     let gate = gate_of(alloc, net, from)?;
+    let mut delays = [from.node; D];
     let mut last = from.node;
-    for _value in 0..delay {
+    for value in 0..D {
         let before = Stream {
             node: last,
             period: from.period,
             offset: from.offset,
         };
         last = held(net, before, gate, width)?;
+        delays[value] = last;
     }
-    let difference = Stream {
+    let change = Stream {
         node: net.sub(from.node, last, width)?,
         period: from.period,
         offset: from.offset,
     };
-    let node = held(net, difference, gate, width)?;
-    Ok(Stream {
-        node,
-        period: from.period,
-        offset: from.offset + 1,
-    })
+    let difference = held(net, change, gate, width)?;
+    Ok(Comb { delays, difference })
 }
 
-/// So many combs in a row, each a tick later than what it reads. After want of memory there may be more nodes.
-pub(crate) fn combs(
+/// Combs in a row: the registers of each, and the stream of the last one's differences.
+#[derive(Clone, Copy)]
+pub(crate) struct CombRow<const N: usize, const D: usize> {
+    pub(crate) each: [Comb<D>; N],
+    pub(crate) to: Stream,
+}
+
+/// N combs over D values each in a row, each a tick later than what it reads. After want of memory there may be more nodes.
+pub(crate) fn combs<const N: usize, const D: usize>(
     alloc: Global,
     net: &mut Net,
     from: Stream,
-    stages: usize,
-    delay: usize,
     width: u8,
-) -> Result<Stream, Memory>
+) -> Result<CombRow<N, D>, Memory>
     requires within { from.node.place < length net.old.cells }
     requires data_group { 1 ≤ net.old.group }
     requires positive { 1 ≤ from.period }
-    requires few { stages ≤ 8 }
+    requires few { N ≤ 8 }
+    requires close { D ≤ 2 }
     requires early { from.offset < 2 ^ 62 }
     requires wide { IsWidth width }
-    ensures ok { IfOk result (AddsCombs net.old net.new from width stages delay) }
+    ensures ok { IfOk result (λ row. AddsCombRow net.old net.new from width N D row.each row.to) }
     ensures extends { Extends net.old.cells net.new.cells }
     ensures group { net.new.group ≡ net.old.group }
 {
-    let mut last = from;
-    for _stage in 0..stages {
-        last = comb(alloc, net, last, delay, width)?;
+    let unset = Comb {
+        delays: [from.node; D],
+        difference: from.node,
+    };
+    let mut each = [unset; N];
+    let mut to = from;
+    for stage in 0..N {
+        let Comb { delays, difference } = add_comb::<D>(alloc, net, to, width)?;
+        each[stage] = Comb { delays, difference };
+        to = Stream {
+            node: difference,
+            period: to.period,
+            offset: to.offset + 1,
+        };
     }
-    Ok(last)
+    Ok(CombRow { each, to })
 }

@@ -5,7 +5,7 @@ ghost use Rattle.net_graph.specs.Grow.{Extends};
 ghost use Rattle.net_graph.specs.WellFormed.{IsWidth};
 ghost use Rattle.cic_chain.specs.Pieces.{AddsDecimator};
 
-use crate::cascades::{combs, integrators};
+use crate::cascades::{CombRow, combs, integrators};
 use mr_values::Memory;
 use net_graph::{Net, Stream};
 use std::alloc::Global;
@@ -28,6 +28,7 @@ pub(crate) fn decimate<const N: usize, const D: usize>(
     requires factor_high { factor ≤ 4096 }
     requires some { 1 ≤ N }
     requires few { N ≤ 8 }
+    requires close { D ≤ 2 }
     requires wide { IsWidth width }
     ensures ok { IfOk result (AddsDecimator net.old net.new from width factor N D) }
     ensures extends { Extends net.old.cells net.new.cells }
@@ -39,6 +40,6 @@ pub(crate) fn decimate<const N: usize, const D: usize>(
         period: from.period * u64::from(factor),
         offset: from.offset + (N as u64 - 1) * from.period + 1,
     };
-    let to = combs(alloc, net, kept, N, D, width)?;
+    let CombRow { each: _, to } = combs::<N, D>(alloc, net, kept, width)?;
     Ok(to)
 }

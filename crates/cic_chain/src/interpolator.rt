@@ -5,7 +5,7 @@ ghost use Rattle.net_graph.specs.Grow.{Extends};
 ghost use Rattle.net_graph.specs.WellFormed.{IsWidth};
 ghost use Rattle.cic_chain.specs.Pieces.{AddsStuffed, AddsInterpolator};
 
-use crate::cascades::{combs, integrators};
+use crate::cascades::{CombRow, combs, integrators};
 use mr_values::Memory;
 use net_graph::{Net, Stream};
 use pipeline_balance::counter;
@@ -57,12 +57,13 @@ pub(crate) fn interpolate<const N: usize, const D: usize>(
     requires whole { from.period % factor ≡ 0 }
     requires some { 1 ≤ N }
     requires few { N ≤ 8 }
+    requires close { D ≤ 2 }
     requires wide { IsWidth width }
     ensures ok { IfOk result (AddsInterpolator net.old net.new from width factor N D) }
     ensures extends { Extends net.old.cells net.new.cells }
     ensures group { net.new.group ≡ net.old.group }
 {
-    let slow = combs(alloc, net, from, N, D, width)?;
+    let CombRow { each: _, to: slow } = combs::<N, D>(alloc, net, from, width)?;
     let fast = zero_stuffed(alloc, net, slow, factor, width)?;
     let sums = integrators::<N>(alloc, net, fast, width)?;
     Ok(Stream {

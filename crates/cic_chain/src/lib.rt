@@ -11,6 +11,3 @@ mod stages;
 
 pub use laws::law_of_cascades;
 pub use stages::{CicDown, CicUp};
-
-#[cfg(test)]
-mod tests;

@@ -75,10 +75,8 @@ pub(crate) fn phase_range<R: Ranges>(
     };
     let mut range = Range { lo: 0, hi: 0 };
     for first in 0..factor {
-        let sum = WeightedSum {
-            behind: 0,
-            weights: phase_of(alloc, weights, factor as usize, first as usize)?,
-        };
+        let phase = phase_of(alloc, weights, factor as usize, first as usize)?;
+        let sum = WeightedSum::of(alloc, 0, phase.as_slice())?;
         let own = ranges.range(&sum, every);
         range = joined(range, own);
     }

@@ -63,7 +63,7 @@ impl<const N: usize, const D: usize> CicDown<N, D> {
         ensures same_group { net.new.group ≡ net.old.group }
     {
         let weights = cic_weights(alloc, N, self.factor as usize * D)?;
-        let sum = WeightedSum { behind: 0, weights };
+        let sum = WeightedSum::of(alloc, 0, weights.as_slice())?;
         let kept = Class {
             modulus: self.factor,
             residue: 0,

@@ -2,6 +2,7 @@
 
 ghost use Rattle.std.specs.Prelude.{◌≡◌, ℕ, ◌^◌, ◌<◌, ◌≤◌, IfOk, length, Some, slice_get, not, ◌==◌};
 ghost use Rattle.verilog_tree.specs.Meaning.{FitNames, bit_of};
+ghost use Rattle.verilog_tree.specs.Checks.{Passes};
 ghost use Rattle.verilog_tree.specs.Names.{shapes_of, number_of};
 ghost use Rattle.verilog_tree.specs.Circuit.{Driver, IsSettling, given_by, next, put, with_inputs};
 ghost use Rattle.verilog_tree.specs.Cycle.{circuit_of};
@@ -18,6 +19,7 @@ use crate::registers::{Blocks, blocks_of};
 use crate::shape_table::{ShapeTable, table_of};
 use crate::step::{Compiled, steps_of};
 use crate::steps::{edge, evaluate, mark_blocks, settle, write};
+use formed_module::FormedModule;
 use mr_values::Memory;
 use settle_order::evaluation_order;
 use std::alloc::Global;
@@ -166,9 +168,8 @@ fn initial_values(alloc: Global, design: &Module, initial: &[u128]) -> Result<Ve
 }
 
 impl<'a> Sim<'a> {
-    /// A simulator of a module whose registers have these patterns, one for each in the order of their declarations. Fails only for
-    /// want of memory.
-    pub fn start(alloc: Global, design: &'a Module, initial: &[u128]) -> Result<Sim<'a>, Memory>
+    // A simulator of a tree whose registers have these patterns.
+    fn of_tree(alloc: Global, design: &'a Module, initial: &[u128]) -> Result<Sim<'a>, Memory>
         requires sound { IsSound (design_view design.now) }
         requires fits { AreInitial (shapes_of (design_view design.now)) design.now.signals.items initial.now }
         ensures design { IfOk result (λ sim. sim.design ≡ design.now) }
@@ -193,6 +194,22 @@ impl<'a> Sim<'a> {
             values,
             staged,
         })
+    }
+
+    /// A simulator of a module that passes the checks, whose registers have these patterns, one for each in the order of their
+    /// declarations. Fails only for want of memory.
+    pub fn start(
+        alloc: Global,
+        design: &'a FormedModule,
+        initial: &[u128],
+    ) -> Result<Sim<'a>, Memory>
+        requires passes { Passes (design_view design.now) }
+        requires fits { AreInitial (shapes_of (design_view design.now)) design.now.signals.items initial.now }
+        ensures design { IfOk result (λ sim. sim.design ≡ design.now) }
+        ensures values { IfOk result (λ sim. HoldInitial design.now.signals.items initial.now sim.values) }
+        ensures count { IfOk result (λ sim. length sim.values ≡ length design.now.names.items) }
+    {
+        Sim::of_tree(alloc, design.tree(), initial)
     }
 
     /// Sets the inputs, of which `in_data` fits its port, and gives each wire and output the value of its expression. It takes no

@@ -17,33 +17,33 @@ use Rattle.plan_reader.specs.Documents.{plan_of, Says}
 use Rattle.plan_reader.specs.TapFields.{SaysTaps}
 use Rattle.plan_reader.specs.Tapped.{plan_tapped}
 use Rattle.plan_reader.proofs.OneAnswer.{one_answer}
-use Rattle.command_files.specs.declared.fault.Fault.{Fault}
-use Rattle.command_files.specs.declared.fault.Fault.TheVariants as fault
+use Rattle.command_files.specs.declared.fault.CommandFault.{CommandFault}
+use Rattle.command_files.specs.declared.fault.CommandFault.TheVariants as fault
 use Rattle.command_files.specs.declared.fault.FileKind.TheVariants as file
 use Rattle.command_files.specs.Ends.{IsMissing}
 use Rattle.command_files.specs.PlanFile.{HasFile, IsTooLong, HasTaps, Fills, IsReached, SaysText, SaysPlan, IsAcceptedFile, IsUnread, IsRefusedPlan, IsOfPlan}
 
 -- ---- one answer
 
-same_bytes : (name : List ℕ) (files : Files) (a b : List ℕ) → get files name ≡ Some a → get files name ≡ Some b → a ≡ b
+pub same_bytes : (name : List ℕ) (files : Files) (a b : List ℕ) → get files name ≡ Some a → get files name ≡ Some b → a ≡ b
 same_bytes name files a b x y = same_Some a b (sym x ∙ y)
 
-isnt_long : (name bytes : List ℕ) (files : Files) → HasFile name files bytes → IsTooLong name files → ⊥
+pub isnt_long : (name bytes : List ℕ) (files : Files) → HasFile name files bytes → IsTooLong name files → ⊥
 isnt_long name bytes files has long =
     let same : long.bytes ≡ bytes = same_bytes name files long.bytes bytes long.there has.there in
     let short : length long.bytes ≤ 2 ^ 20 = rw same has.short in
     omega (arith, short, long.long)
 
-same_said : (bytes : List ℕ) (a b : Result PlanText PlanReadFault) → Says bytes a → Says bytes b → a ≡ b
+pub same_said : (bytes : List ℕ) (a b : Result PlanText PlanReadFault) → Says bytes a → Says bytes b → a ≡ b
 same_said bytes a b x y = same_Some a b (sym x.says ∙ y.says)
 
-same_text : (name : List ℕ) (files : Files) (a b : PlanText) → SaysText name files a → SaysText name files b → a ≡ b
+pub same_text : (name : List ℕ) (files : Files) (a b : PlanText) → SaysText name files a → SaysText name files b → a ≡ b
 same_text name files a b x y =
     let same : x.bytes ≡ y.bytes = same_bytes name files x.bytes y.bytes x.has.there y.has.there in
     let e = same_said y.bytes (Ok a) (Ok b) (subst (λ (bytes : List ℕ). Says bytes (Ok a)) same x.says) y.says in
     cc
 
-same_taps : (name : List ℕ) (files : Files) (a b : Result (List ℤ) TapFault) → HasTaps name files a → HasTaps name files b → a ≡ b
+pub same_taps : (name : List ℕ) (files : Files) (a b : Result (List ℤ) TapFault) → HasTaps name files a → HasTaps name files b → a ≡ b
 same_taps name files a b x y =
     let same : x.bytes ≡ y.bytes = same_bytes name files x.bytes y.bytes x.has.there y.has.there in
     one_answer y.bytes a b (subst (λ (bytes : List ℕ). SaysTaps bytes a) same x.says) y.says
@@ -64,28 +64,28 @@ same_plan name files a b x y =
 
 -- ---- a plan that is accepted isn't refused
 
-no_document : (found : Option Members) (a : Result PlanText PlanReadFault) → found ≡ None → option_map plan_of found ≡ Some a → ⊥
+pub no_document : (found : Option Members) (a : Result PlanText PlanReadFault) → found ≡ None → option_map plan_of found ≡ Some a → ⊥
 no_document None a e h = cc
 no_document (Some ms) a e h = cc
 
-unread_isnt_said : (bytes : List ℕ) (why : PlanReadFault) (text : PlanText) → IsUnread bytes why → Says bytes (Ok text) → ⊥
+pub unread_isnt_said : (bytes : List ℕ) (why : PlanReadFault) (text : PlanText) → IsUnread bytes why → Says bytes (Ok text) → ⊥
 unread_isnt_said bytes NotToml text x y = no_document (parse_document bytes) (Ok text) (x.refused y.text) y.says
 unread_isnt_said bytes (Field element field why) text x y = let e = same_said bytes (Err (Field element field why)) (Ok text) x.refused y in cc
 unread_isnt_said bytes (Version found) text x y = let e = same_said bytes (Err (Version found)) (Ok text) x.refused y in cc
 unread_isnt_said bytes Memory text x y = x.told refl
 
-has_each : (files : Files) (before : List TapFile) (tap_file : TapFile) (after : List TapFile) (plan whole : Plan) → Fills files (before ++ tap_file ∷ after) plan whole → (taps : List ℤ) × HasTaps tap_file.name files (Ok taps)
+pub has_each : (files : Files) (before : List TapFile) (tap_file : TapFile) (after : List TapFile) (plan whole : Plan) → Fills files (before ++ tap_file ∷ after) plan whole → (taps : List ℤ) × HasTaps tap_file.name files (Ok taps)
 has_each files [] tap_file after plan whole x = (x.0, x.1)
 has_each files (first ∷ others) tap_file after plan whole x = has_each files others tap_file after (plan_tapped first.element x.0 plan) whole x.2
 
 -- each tap file of a plan is there and says taps
-has_taps : (name : List ℕ) (files : Files) (plan : Plan) (text : PlanText) (tap_file : TapFile) → SaysPlan name files plan → SaysText name files text → IsReached files text tap_file → (taps : List ℤ) × HasTaps tap_file.name files (Ok taps)
+pub has_taps : (name : List ℕ) (files : Files) (plan : Plan) (text : PlanText) (tap_file : TapFile) → SaysPlan name files plan → SaysText name files text → IsReached files text tap_file → (taps : List ℤ) × HasTaps tap_file.name files (Ok taps)
 has_taps name files plan text tap_file x y reached =
     let same = same_text name files x.text text x.says y in
     let filled : Fills files text.files text.plan plan = subst (λ (t : PlanText). Fills files t.files t.plan plan) same x.filled in
     has_each files reached.before tap_file reached.after text.plan plan (subst (λ (named : List TapFile). Fills files named text.plan plan) (sym reached.order) filled)
 
-pub accepted_isnt_refused : (name : List ℕ) (files : Files) (plan : Plan) (why : Fault) → IsAcceptedFile name files plan → IsRefusedPlan name files why → ⊥
+pub accepted_isnt_refused : (name : List ℕ) (files : Files) (plan : Plan) (why : CommandFault) → IsAcceptedFile name files plan → IsRefusedPlan name files why → ⊥
 accepted_isnt_refused name files plan (fault.FileTooLong file.Plan) x y = isnt_long name x.says.says.bytes files x.says.says.has y
 accepted_isnt_refused name files plan (fault.FileTooLong (file.Taps element)) x y =
     let taps = has_taps name files plan y.0 y.2.tap_file x.says y.1 y.2.reached in

@@ -6,6 +6,7 @@ use Rattle.std.specs.Cmp.Lexicographic.{slice_cmp, nat_list_cmp_total}
 use Rattle.std.specs.FinMap.{get, insert, get-insert, same_map, slice_cmp-IsAntisymmetric, nat_cmp-IsAntisymmetric}
 use Rattle.mr_values.specs.Files.{Files, bytes_of}
 use Rattle.mr_values.specs.Host.{HostState, left_of}
+use Rattle.command_files.specs.Ends.{AreNoFewer}
 
 again : (b : Bool) (x y : Option (List ℕ)) (rest : Option (List ℕ)) → cond b x (cond b y rest) ≡ cond b x rest
 again true x y rest = refl
@@ -38,6 +39,7 @@ pub record ToldSoFar (name seen : List ℕ) (start now : HostState) : Type 0 whe
   pub input : now.input ≡ name
   pub is_there : IsSome (get start.files name)
   pub bytes : bytes_of start.files name ≡ seen ++ left_of now
+  pub ends : AreNoFewer start.ends now.ends
 
 pub record ReadSoFar (name seen : List ℕ) (limit : ℕ) (start now : HostState) : Type 0 where
   pub has_input : now.has_input ≡ true

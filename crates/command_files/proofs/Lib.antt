@@ -1,3 +1,4 @@
+pub mod EndsKept
 pub mod AcceptSteps
 pub mod EndSteps
 pub mod FileSteps
@@ -5,3 +6,7 @@ pub mod ReadSteps
 pub mod RowFileSteps
 pub mod RowLemmas
 pub mod TextSteps
+pub mod PlainFaults
+pub mod EndedPlan
+pub mod PlanSteps
+pub mod OnePlanAnswer

@@ -14,12 +14,13 @@ use Rattle.mr_values.specs.declared.host.HostCall.TheVariants.{Next, OpenOutput,
 use Rattle.sample_file.specs.declared.fault.LineFault.{LineFault}
 use Rattle.row_stream.specs.Giving.{Giving, GivesSome, GoesOn, EndsOn, Takes, Closes}
 use Rattle.row_stream.specs.declared.fault.StreamFault.{StreamFault}
-use Rattle.command_files.specs.declared.fault.Fault.{Fault}
-use Rattle.command_files.specs.declared.fault.Fault.TheVariants.{HostFault, Memory, Line}
-use Rattle.command_files.specs.Ends.{EndsWith, IsNoFile}
+use Rattle.command_files.specs.declared.fault.RowsFault.{RowsFault}
+use Rattle.command_files.specs.declared.fault.RowsFault.TheVariants.{HostFault, Memory, Line}
+use Rattle.command_files.specs.Ends.{EndsWith, IsNoFile, AreNoFewer, IsReadToEnd}
 use Rattle.command_files.specs.WholeFiles.{IsEmptied}
 use Rattle.command_files.specs.RowFiles.{RowsEnd, HoldsGiven, HoldsGivenFront}
 use Rattle.command_files.specs.RowSteps.{Appended, PutAnswer, PutsOut, HandsOn, GivesFront, Taken, TakesPiece, TakesRows, EndsOnce, EndsRows, none_left, Given, OpensOut}
+use Rattle.command_files.proofs.EndsKept.{read_kept, ended_before, ended_after}
 use Rattle.command_files.proofs.FileSteps.{bytes_of-insert, insert-insert}
 use Rattle.command_files.proofs.RowLemmas.{goes_after, goes_before, goes_nowhere, drop-more, front_some, front_after, taken_on, closed_on, taken_after, failed_before, at_end, given_after, ends_then, given_up}
 
@@ -62,7 +63,7 @@ grown_by piece old new grown = λ base sent is. grown ∙ rw (is, bytes_of-inser
 pub put_done : (bytes piece : List ℕ) (old new : HostState) → piece ≡ bytes → Appends piece (Ok tt) old new → PutsOut bytes (Ok tt) old new
 put_done bytes piece old new is put = record { front = piece; answer = is; grown = grown_by piece old new put.appended.0; input = put.input; place = put.place; output = put.appended.1 }
 
-pub put_failed : (bytes piece : List ℕ) (fault : Fault) (why : OutFail) (old new : HostState) → piece ≡ bytes → Appends piece (Err why) old new
+pub put_failed : (bytes piece : List ℕ) (fault : RowsFault) (why : OutFail) (old new : HostState) → piece ≡ bytes → Appends piece (Err why) old new
     → ((front : List ℕ) → ((behind : List ℕ) × (bytes ≡ front ++ behind)) → PutAnswer bytes front (Err fault)) → PutsOut bytes (Err fault) old new
 put_failed bytes piece fault why old new is put answer =
     let front = take put.refused.0 piece in
@@ -80,7 +81,7 @@ put_nothing bytes host none = record { front = []; answer = sym none; grown = ap
 
 -- ---- one call
 
-pub turn_taken : (a b : Giving) (piece bytes : List ℕ) (answer : Result ℕ StreamFault) (result : Result ℕ Fault) (old new : HostState) → GivesSome a → GivesSome b → Takes a b piece [] answer bytes
+pub turn_taken : (a b : Giving) (piece bytes : List ℕ) (answer : Result ℕ StreamFault) (result : Result ℕ RowsFault) (old new : HostState) → GivesSome a → GivesSome b → Takes a b piece [] answer bytes
     → HandsOn answer bytes result old new → TakesPiece (λ taken. drop taken piece) a b piece result old new
 turn_taken a b piece bytes answer result old new some_a some_b takes h = record {
   front = h.front;
@@ -91,7 +92,7 @@ turn_taken a b piece bytes answer result old new some_a some_b takes h = record 
   output = h.output;
 }
 
-pub turn_ended : (a b : Giving) (bytes : List ℕ) (answer : Result Bool StreamFault) (result : Result Bool Fault) (old new : HostState) → GivesSome a → GivesSome b → Closes a b [] answer bytes
+pub turn_ended : (a b : Giving) (bytes : List ℕ) (answer : Result Bool StreamFault) (result : Result Bool RowsFault) (old new : HostState) → GivesSome a → GivesSome b → Closes a b [] answer bytes
     → HandsOn answer bytes result old new → EndsOnce a b result old new
 turn_ended a b bytes answer result old new some_a some_b closes h = record {
   front = h.front;
@@ -125,7 +126,7 @@ module _ (a b : Giving) (piece left : List ℕ) (before : ℕ) (old middle new :
     output = two.output ∙ one.output;
   }
 
-  pub piece_failed : (c d : Giving) (fault : Fault) → TakesPiece (λ (count : ℕ). drop count left) b c left (Err fault) middle new → TakesPiece none_left a d piece (Err fault) old new
+  pub piece_failed : (c d : Giving) (fault : RowsFault) → TakesPiece (λ (count : ℕ). drop count left) b c left (Err fault) middle new → TakesPiece none_left a d piece (Err fault) old new
   piece_failed c d fault two = record {
     front = one.front ++ two.front;
     answer = failed_of (taken_after (λ (count : ℕ). drop count left) a b c piece left one.front two.front (Err fault) goes two.answer);
@@ -173,13 +174,14 @@ rows_begun a base sent host is = record {
 
 -- nothing is left of the input
 pub rows_done : (a b : Giving) (base : Files) (sent : List ℕ) (old middle new : HostState) → RowsSoFar a b base sent old middle → left_of middle ≡ [] → left_of new ≡ left_of middle → new.files ≡ middle.files → new.input ≡ middle.input
-    → new.output ≡ middle.output → TakesRows a b base sent (Ok tt) old new
-rows_done a b base sent old middle new so_far none left files input output = record {
+    → new.output ≡ middle.output → IsReadToEnd middle.input old new → TakesRows a b base sent (Ok tt) old new
+rows_done a b base sent old middle new so_far none left files input output ended = record {
   front = so_far.front;
   answer = subst (λ (bytes : List ℕ). GoesOn a b bytes [] so_far.front) (sym (so_far.read ∙ ap (λ (bytes : List ℕ). so_far.seen ++ bytes) none ∙ append-nil so_far.seen)) so_far.goes;
   grown = files ∙ so_far.grown;
   input = input ∙ so_far.input;
   ended = left ∙ none;
+  read = subst (λ (name : List ℕ). IsReadToEnd name old new) so_far.input ended;
   output = output ∙ so_far.output;
 }
 
@@ -193,6 +195,7 @@ rows_unread a b c base sent old middle new some so_far files = record {
   grown = files ∙ so_far.grown;
   input = tt;
   ended = tt;
+  read = tt;
   output = tt;
 }
 
@@ -225,7 +228,7 @@ module _ (a b : Giving) (base : Files) (sent piece : List ℕ) (old middle read 
       }
 
   -- a piece was read, and its rows are given up
-  pub rows_failed : (c d : Giving) (fault : Fault) → TakesPiece none_left b c piece (Err fault) read new → TakesRows a d base sent (Err fault) old new
+  pub rows_failed : (c d : Giving) (fault : RowsFault) → TakesPiece none_left b c piece (Err fault) read new → TakesRows a d base sent (Err fault) old new
   rows_failed c d fault two = record {
     front = so_far.front ++ two.front;
     answer = subst (λ (all : List ℕ). Taken none_left a d all (so_far.front ++ two.front) (Err fault))
@@ -235,6 +238,7 @@ module _ (a b : Giving) (base : Files) (sent piece : List ℕ) (old middle read 
     grown = after two.front two.grown;
     input = tt;
     ended = tt;
+    read = tt;
     output = tt;
   }
 
@@ -263,7 +267,7 @@ module _ (a b c : Giving) (old middle new : HostState) (so_far : EndSoFar a b ol
     output = one.output ∙ so_far.output;
   }
 
-  ends_with : (result : Result (Unit {0}) Fault) (front : List ℕ) → Given b [] front result → Appended front middle new → new.input ≡ middle.input → new.place ≡ middle.place → EndsRows a result old new
+  ends_with : (result : Result (Unit {0}) RowsFault) (front : List ℕ) → Given b [] front result → Appended front middle new → new.input ≡ middle.input → new.place ≡ middle.place → EndsRows a result old new
   ends_with result front given grown input place = record {
     front = so_far.front ++ front;
     answer = given_after a b [] so_far.front front result so_far.goes.gives given;
@@ -275,7 +279,7 @@ module _ (a b c : Giving) (old middle new : HostState) (so_far : EndSoFar a b ol
   pub end_done : EndsOnce b c (Ok true) middle new → EndsRows a (Ok tt) old new
   end_done one = ends_with (Ok tt) one.front one.answer one.grown one.input one.place
 
-  pub end_failed : (fault : Fault) → EndsOnce b c (Err fault) middle new → EndsRows a (Err fault) old new
+  pub end_failed : (fault : RowsFault) → EndsOnce b c (Err fault) middle new → EndsRows a (Err fault) old new
   end_failed fault one = ends_with (Err fault) one.front one.answer one.grown one.input one.place
 
 -- ---- the whole loop
@@ -292,7 +296,7 @@ holds_front gives input output old new bytes front there given written = record 
 }
 
 -- what was put by each answer, where it failed
-pub rows_fail : (gives : Giving) (input output : List ℕ) (fault : Fault) (old new : HostState) (bytes front : List ℕ) → get old.files input ≡ Some bytes → Given gives bytes front (Err fault) → new.files ≡ insert old.files output front
+pub rows_fail : (gives : Giving) (input output : List ℕ) (fault : RowsFault) (old new : HostState) (bytes front : List ℕ) → get old.files input ≡ Some bytes → Given gives bytes front (Err fault) → new.files ≡ insert old.files output front
     → RowsEnd gives input output (Err fault) old new
 rows_fail gives input output (Line fault) old new bytes front there given written = holds gives input output (Some fault) old.files new.files bytes front there given written
 rows_fail gives input output (HostFault Next) old new bytes front there given written = holds_front gives input output old.files new.files bytes front there given written
@@ -300,14 +304,14 @@ rows_fail gives input output (HostFault Put) old new bytes front there given wri
 rows_fail gives input output Memory old new bytes front there given written = inr (holds_front gives input output old.files new.files bytes front there given written)
 rows_fail gives input output _ old new bytes front there given written = absurd given
 
-pub rows_end : (gives : Giving) (input output : List ℕ) (result : Result (Unit {0}) Fault) (old new : HostState) (bytes front : List ℕ) → get old.files input ≡ Some bytes → Given gives bytes front result → new.files ≡ insert old.files output front
-    → new.input ≡ input → left_of new ≡ [] → RowsEnd gives input output result old new
-rows_end gives input output (Ok done) old new bytes front there given written is_input end = record { holds = holds gives input output None old.files new.files bytes front there given written; read = is_input; end = end }
-rows_end gives input output (Err fault) old new bytes front there given written is_input end = rows_fail gives input output fault old new bytes front there given written
+pub rows_end : (gives : Giving) (input output : List ℕ) (result : Result (Unit {0}) RowsFault) (old new : HostState) (bytes front : List ℕ) → get old.files input ≡ Some bytes → Given gives bytes front result → new.files ≡ insert old.files output front
+    → new.input ≡ input → left_of new ≡ [] → IsReadToEnd input old new → RowsEnd gives input output result old new
+rows_end gives input output (Ok done) old new bytes front there given written is_input end ended = record { holds = holds gives input output None old.files new.files bytes front there given written; read = is_input; end = end; ended = ended }
+rows_end gives input output (Err fault) old new bytes front there given written is_input end ended = rows_fail gives input output fault old new bytes front there given written
 
 -- the next bytes were read
 pub read_ends : (count : ℕ) (room : List ℕ) (old new : HostState) → HasCause Next false old new → (IsTrue old.tells → Reads room (Ok count) old new) → EndsWith IsNoFile None old new
-read_ends count room old new cause told = record { same_kind = cause.same_kind; blamed = cause.unmoved refl; struck = λ t. (told t).struck.unmoved refl }
+read_ends count room old new cause told = record { same_kind = cause.same_kind; blamed = cause.unmoved refl; struck = λ t. (told t).struck.unmoved refl; ends = λ t. read_kept (Ok count) room old new (told t) }
 
 -- ---- the files opened
 
@@ -329,8 +333,8 @@ input_opened name (Ok done) old new is opens =
 input_opened name (Err failed) old new is opens = absurd (cc)
 
 -- the output couldn't be opened
-pub open_fails : (gives : Giving) (input output : List ℕ) (fault : Fault) (old middle new : HostState) → InputOpened input old middle → GivesSome gives → OpensOut output (Err fault) middle new → RowsEnd gives input output (Err fault) old new
-open_fails gives input output (HostFault OpenOutput) old middle new opened some out = subst (λ (files : Files). IsEmptied output files new.files) opened.files out.answer
+pub open_fails : (gives : Giving) (input output : List ℕ) (fault : RowsFault) (old middle new : HostState) → InputOpened input old middle → GivesSome gives → OpensOut output (Err fault) middle new → RowsEnd gives input output (Err fault) old new
+open_fails gives input output (HostFault OpenOutput) old middle new opened some out = ((opened.bytes, opened.there), subst (λ (files : Files). IsEmptied output files new.files) opened.files out.answer)
 open_fails gives input output Memory old middle new opened some out = by (subst (λ (files : Files). IsEmptied output files new.files) opened.files out.answer)
   where
     by : IsEmptied output old.files new.files → RowsEnd gives input output (Err Memory) old new
@@ -359,13 +363,13 @@ module _ (a b : Giving) (input output : List ℕ) (old one two three : HostState
       ∙ other_bytes old.files output [] input isnt
       ∙ ap (λ (found : Option (List ℕ)). unwrap_or found []) opened.there
 
-  pub stream_fails : (fault : Fault) → TakesRows a b old.files [] (Err fault) two three → RowsEnd a input output (Err fault) old three
+  pub stream_fails : (fault : RowsFault) → TakesRows a b old.files [] (Err fault) two three → RowsEnd a input output (Err fault) old three
   stream_fails fault t = rows_fail a input output fault old three opened.bytes t.front opened.there
       (subst (λ (bytes : List ℕ). Given a bytes t.front (Err fault)) left_is (given_up a b (left_of two) t.front fault t.answer))
       (t.grown ∙ ap (λ (name : List ℕ). insert old.files name t.front) output_is)
 
-  pub stream_ends : (result : Result (Unit {0}) Fault) (four : HostState) → TakesRows a b old.files [] (Ok tt) two three → EndsRows b result three four → RowsEnd a input output result old four
-  stream_ends result four t e =
+  pub stream_ends : (result : Result (Unit {0}) RowsFault) (four : HostState) → TakesRows a b old.files [] (Ok tt) two three → EndsRows b result three four → AreNoFewer old.ends two.ends → AreNoFewer three.ends four.ends → RowsEnd a input output result old four
+  stream_ends result four t e before_rows after_rows =
       let name : three.output ≡ output = t.output ∙ output_is in
       let sent : three.files ≡ insert old.files three.output t.front = t.grown ∙ ap (λ (n : List ℕ). insert old.files n t.front) (sym t.output) in
       let grown : four.files ≡ insert old.files output (t.front ++ e.front) = e.grown old.files t.front sent ∙ ap (λ (n : List ℕ). insert old.files n (t.front ++ e.front)) name in
@@ -375,3 +379,4 @@ module _ (a b : Giving) (input output : List ℕ) (old one two three : HostState
       let left : left_of four ≡ left_of three =
       left_same old.files output t.front (t.front ++ e.front) three four (subst (λ (n : List ℕ). n ≢ output) (sym read) isnt) before grown e.input e.place in
       rows_end a input output result old four opened.bytes (t.front ++ e.front) opened.there (given_after a b opened.bytes t.front e.front result (at_end a b opened.bytes t.front goes) e.answer) grown (e.input ∙ read) (left ∙ t.ended)
+      (subst (λ (n : List ℕ). IsReadToEnd n old four) input_is (ended_before two.input old three four (ended_after two.input old two three before_rows t.read) after_rows))

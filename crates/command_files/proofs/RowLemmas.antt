@@ -6,8 +6,8 @@ use Rattle.row_stream.specs.Giving.{Giving, GivesSome, GoesOn, EndsOn, Takes, Cl
 use Rattle.row_stream.specs.declared.fault.StreamFault.{StreamFault}
 use Rattle.row_stream.specs.declared.fault.StreamFault.TheVariants as stream
 use Rattle.mr_values.specs.declared.host.HostCall.TheVariants.{Next, Put}
-use Rattle.command_files.specs.declared.fault.Fault.{Fault}
-use Rattle.command_files.specs.declared.fault.Fault.TheVariants.{HostFault, Memory, Line}
+use Rattle.command_files.specs.declared.fault.RowsFault.{RowsFault}
+use Rattle.command_files.specs.declared.fault.RowsFault.TheVariants.{HostFault, Memory, Line}
 use Rattle.command_files.specs.RowSteps.{IsPart, HandedOn, GivesFront, Taken, none_left, Given, GivenOnce}
 
 -- ---- points of a file
@@ -71,7 +71,7 @@ module _ (a b : Giving) (piece bytes : List ℕ) (some_a : GivesSome a) (some_b 
   part_taken_of answer front rest takes (inl none) = subst (λ (all : List ℕ). GivesFront a (piece ++ rest) all) (sym none) (front_some a (piece ++ rest) some_a)
   part_taken_of answer front rest takes (inr (behind, isnt, is)) = part_taken answer front behind rest takes isnt is
 
-  pub taken_on : (answer : Result ℕ StreamFault) (front : List ℕ) (result : Result ℕ Fault) → Takes a b piece [] answer bytes → HandedOn answer bytes front result → Taken (λ taken. drop taken piece) a b piece front result
+  pub taken_on : (answer : Result ℕ StreamFault) (front : List ℕ) (result : Result ℕ RowsFault) → Takes a b piece [] answer bytes → HandedOn answer bytes front result → Taken (λ taken. drop taken piece) a b piece front result
   taken_on answer front (Ok taken) takes (same, all) =
       let t = subst (λ (r : Result ℕ StreamFault). Takes a b piece [] r bytes) same takes in
       subst (λ (more : List ℕ). GoesOn a b piece (drop taken piece) more) (sym (all ∙ t.1)) t.2
@@ -93,7 +93,7 @@ module _ (a b : Giving) (bytes : List ℕ) (some_a : GivesSome a) (some_b : Give
   part_closed_of answer front closes (inl none) = subst (λ (all : List ℕ). GivesFront a [] all) (sym none) (front_some a [] some_a)
   part_closed_of answer front closes (inr (behind, isnt, is)) = part_closed answer front behind closes isnt is
 
-  pub closed_on : (answer : Result Bool StreamFault) (front : List ℕ) (result : Result Bool Fault) → Closes a b [] answer bytes → HandedOn answer bytes front result → GivenOnce a b front result
+  pub closed_on : (answer : Result Bool StreamFault) (front : List ℕ) (result : Result Bool RowsFault) → Closes a b [] answer bytes → HandedOn answer bytes front result → GivenOnce a b front result
   closed_on answer front (Ok true) closes (same, all) =
       let t = subst (λ (r : Result Bool StreamFault). Closes a b [] r bytes) same closes in
       subst (λ (more : List ℕ). a [] more None) (sym (all ∙ t.1)) t.2
@@ -110,7 +110,7 @@ module _ (a b : Giving) (bytes : List ℕ) (some_a : GivesSome a) (some_b : Give
 -- ---- one part after another
 
 -- bytes were taken after others
-pub taken_after : {A : Type 0} (left_by : A → List ℕ) (a b c : Giving) (bytes left one two : List ℕ) (result : Result A Fault) → GoesOn a b bytes left one → Taken left_by b c left two result → Taken left_by a c bytes (one ++ two) result
+pub taken_after : {A : Type 0} (left_by : A → List ℕ) (a b c : Giving) (bytes left one two : List ℕ) (result : Result A RowsFault) → GoesOn a b bytes left one → Taken left_by b c left two result → Taken left_by a c bytes (one ++ two) result
 taken_after left_by a b c bytes left one two (Ok x) goes taken = goes_after a b c bytes left (left_by x) one two goes taken
 taken_after left_by a b c bytes left one two (Err (Line fault)) goes taken = λ rest. goes.gives rest two (Some fault) (taken rest)
 taken_after left_by a b c bytes left one two (Err (HostFault Next)) goes taken = λ rest. front_after a b bytes left rest one two goes (taken rest)
@@ -119,7 +119,7 @@ taken_after left_by a b c bytes left one two (Err Memory) goes taken = λ rest. 
 taken_after left_by a b c bytes left one two (Err _) goes taken = absurd taken
 
 -- what was given up for bytes holds where more bytes follow
-pub failed_before : {A B : Type 0} (left_by : A → List ℕ) (left_by' : B → List ℕ) (a b c : Giving) (bytes extra front : List ℕ) (fault : Fault) → Taken left_by a b bytes front (Err fault) → Taken left_by' a c (bytes ++ extra) front (Err fault)
+pub failed_before : {A B : Type 0} (left_by : A → List ℕ) (left_by' : B → List ℕ) (a b c : Giving) (bytes extra front : List ℕ) (fault : RowsFault) → Taken left_by a b bytes front (Err fault) → Taken left_by' a c (bytes ++ extra) front (Err fault)
 failed_before left_by left_by' a b c bytes extra front (Line fault) taken = λ rest. subst (λ (all : List ℕ). a all front (Some fault)) (sym (append_assoc bytes extra rest)) (taken (extra ++ rest))
 failed_before left_by left_by' a b c bytes extra front (HostFault Next) taken = λ rest. subst (λ (all : List ℕ). GivesFront a all front) (sym (append_assoc bytes extra rest)) (taken (extra ++ rest))
 failed_before left_by left_by' a b c bytes extra front (HostFault Put) taken = λ rest. subst (λ (all : List ℕ). GivesFront a all front) (sym (append_assoc bytes extra rest)) (taken (extra ++ rest))
@@ -140,7 +140,7 @@ front_at_end a b bytes one two goes front =
     (front.0, front.1, subst (λ (all : List ℕ). a bytes all front.1) (sym (append_assoc one two front.0)) (goes (two ++ front.0) front.1 front.2))
 
 -- the end of the file comes after bytes
-pub given_after : (a b : Giving) (bytes one two : List ℕ) (result : Result (Unit {0}) Fault) → StandsBehind a b bytes one → Given b [] two result → Given a bytes (one ++ two) result
+pub given_after : (a b : Giving) (bytes one two : List ℕ) (result : Result (Unit {0}) RowsFault) → StandsBehind a b bytes one → Given b [] two result → Given a bytes (one ++ two) result
 given_after a b bytes one two (Ok done) goes given = goes two None given
 given_after a b bytes one two (Err (Line fault)) goes given = goes two (Some fault) given
 given_after a b bytes one two (Err (HostFault Next)) goes given = front_at_end a b bytes one two goes given
@@ -155,7 +155,7 @@ ends_then a b c one two first second = record {
 }
 
 -- bytes up to the end of the file were given up
-pub given_up : (a b : Giving) (bytes front : List ℕ) (fault : Fault) → Taken none_left a b bytes front (Err fault) → Given a bytes front (Err fault)
+pub given_up : (a b : Giving) (bytes front : List ℕ) (fault : RowsFault) → Taken none_left a b bytes front (Err fault) → Given a bytes front (Err fault)
 given_up a b bytes front (Line fault) taken = subst (λ (all : List ℕ). a all front (Some fault)) (append-nil bytes) (taken [])
 given_up a b bytes front (HostFault Next) taken = subst (λ (all : List ℕ). GivesFront a all front) (append-nil bytes) (taken [])
 given_up a b bytes front (HostFault Put) taken = subst (λ (all : List ℕ). GivesFront a all front) (append-nil bytes) (taken [])

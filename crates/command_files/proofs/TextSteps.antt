@@ -13,13 +13,18 @@ use Rattle.verilog_text.proofs.OneReading.{one_design}
 use Rattle.verilog_read.specs.declared.fault.ReadFault.{ReadFault}
 use Rattle.verilog_read.specs.declared.fault.ReadFault.TheVariants as reading
 use Rattle.module_reader.specs.Reader.{IsTextRefusal, FailsCheck}
-use Rattle.command_files.specs.declared.fault.Fault.{Fault}
-use Rattle.command_files.specs.declared.fault.Fault.TheVariants as fault
-use Rattle.command_files.specs.declared.fault.Fault.TheVariants.{HostFault, Memory}
+use Rattle.command_files.specs.declared.fault.CommandFault.{CommandFault}
+use Rattle.command_files.specs.declared.fault.CommandFault.TheVariants as fault
+use Rattle.command_files.specs.declared.fault.CommandFault.TheVariants.{HostFault, Memory}
 use Rattle.command_files.specs.declared.fault.FileKind.{FileKind}
 use Rattle.command_files.specs.declared.fault.FileKind.TheVariants as file
 use Rattle.command_files.specs.WholeFiles.{ReadAnswer}
-use Rattle.command_files.specs.TextFile.{HasText, IsTextFile, IsOtherText, BytesAnswer, DesignAnswer, fault_of_text}
+use Rattle.command_files.specs.TextFile.{HasText, IsTextFile, IsOtherText, BytesAnswer, DesignAnswer, ReadsDesign}
+use Rattle.mr_values.specs.Host.{HostState}
+use Rattle.command_files.specs.Ends.{IsReadToEnd}
+use Rattle.command_files.specs.Conversions.{fault_of_file, fault_of_text}
+use Rattle.command_files.specs.declared.fault.FileFault.{FileFault}
+use Rattle.command_files.specs.declared.fault.FileFault.TheVariants as unread
 
 -- ---- TEXT
 
@@ -35,19 +40,24 @@ text_refused bytes (reading.TooDeep place) refused only = ((λ d r p. let e = on
 text_refused bytes (reading.Module why) refused only = unchecked bytes why refused (λ d r p. let e = only d r p in absurd (cc))
 text_refused bytes reading.Memory refused only = tt
 
-pub design_answer : (name : List ℕ) (files : Files) (bytes : List ℕ) (result : Result Module Fault) → HasText name files bytes → BytesAnswer bytes result → DesignAnswer name files result
+design_answer : (name : List ℕ) (files : Files) (bytes : List ℕ) (result : Result Module CommandFault) → HasText name files bytes → BytesAnswer bytes result → DesignAnswer name files result
 design_answer name files bytes (Ok design) has answer = record { bytes = bytes; has = has; reads = answer.0; passes = answer.1 }
 design_answer name files bytes (Err (fault.Read why)) has answer = (bytes, record { has = has; other = answer.0 }, answer.1)
 design_answer name files bytes (Err (fault.Module why)) has answer = (bytes, record { has = has; other = answer.0 }, answer.1)
 design_answer name files bytes (Err Memory) has answer = tt
 design_answer name files bytes (Err _) has answer = absurd answer
 
-pub text_unread : (name : List ℕ) (files : Files) (why : Fault) → ReadAnswer (get files name) file.Text (2 ^ 26) (Err why) → DesignAnswer name files (Err why)
-text_unread name files (fault.FileTooLong kind) answer =
+pub design_read : (name : List ℕ) (old new : HostState) (bytes : List ℕ) (result : Result Module CommandFault) → HasText name old.files bytes → BytesAnswer bytes result → IsReadToEnd name old new → new.files ≡ old.files
+    → ReadsDesign name result old new
+design_read name old new bytes (Ok design) has answer ended files = record { answer = design_answer name old.files bytes (Ok design) has answer; ended = ended; files = files }
+design_read name old new bytes (Err why) has answer ended files = record { answer = design_answer name old.files bytes (Err why) has answer; ended = tt; files = files }
+
+pub text_unread : (name : List ℕ) (files : Files) (why : FileFault) → ReadAnswer (get files name) file.Text (2 ^ 26) (Err why) → DesignAnswer name files (Err (fault_of_file why))
+text_unread name files (unread.FileTooLong kind) answer =
     subst (λ (k : FileKind). DesignAnswer name files (Err (fault.FileTooLong k))) (sym answer.0) (record { bytes = answer.1.0; there = answer.1.1; long = answer.1.2 })
-text_unread name files (HostFault OpenInput) answer = tt
-text_unread name files (HostFault Next) answer = tt
-text_unread name files Memory answer = tt
+text_unread name files (unread.HostFault OpenInput) answer = tt
+text_unread name files (unread.HostFault Next) answer = tt
+text_unread name files unread.Memory answer = tt
 text_unread name files _ answer = absurd answer
 
 pub same_bytes : (files : Files) (name one two : List ℕ) → get files name ≡ Some one → get files name ≡ Some two → one ≡ two

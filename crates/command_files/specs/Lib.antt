@@ -1,12 +1,11 @@
+pub mod Conversions
 pub mod Ends
-pub mod FaultLines
-pub mod FaultWords
+pub mod KindNames
+pub mod OneAnswer
 pub mod OutFile
-pub mod PlanFaults
 pub mod PlanFile
 pub mod Reading
 pub mod RowFiles
 pub mod RowSteps
-pub mod Statuses
 pub mod TextFile
 pub mod WholeFiles

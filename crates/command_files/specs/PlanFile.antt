@@ -1,5 +1,5 @@
 -- PLAN with its tap files as a plan, and why it isn't accepted.
-use Rattle.std.specs.Prelude.{◌≡◌, ◌≢◌, ◌⊎◌, ℕ, ◌≤◌, ◌<◌, ◌^◌, ℤ, List, [], ◌∷◌, ◌++◌, length, drop, Some, Result, Ok, Err}
+use Rattle.std.specs.Prelude.{◌≡◌, ◌≢◌, ◌⊎◌, ℕ, ◌≤◌, ◌<◌, ◌^◌, ℤ, List, [], ◌∷◌, ◌++◌, length, drop, All, Some, Result, Ok, Err}
 use Rattle.std.specs.FinMap.{get}
 use Rattle.mr_values.specs.Files.{Files, bytes_of}
 use Rattle.mr_values.specs.Host.{HostState}
@@ -16,9 +16,10 @@ use Rattle.plan_reader.specs.declared.plan_texts.TapFile.{TapFile}
 use Rattle.plan_reader.specs.Documents.{Says, IsRefusedFor}
 use Rattle.plan_reader.specs.TapFields.{SaysTaps}
 use Rattle.plan_reader.specs.Tapped.{plan_tapped}
-use Rattle.command_files.specs.declared.fault.Fault.{Fault}
-use Rattle.command_files.specs.declared.fault.Fault.TheVariants as fault
+use Rattle.command_files.specs.declared.fault.CommandFault.{CommandFault}
+use Rattle.command_files.specs.declared.fault.CommandFault.TheVariants as fault
 use Rattle.command_files.specs.declared.fault.FileKind.TheVariants as file
+use Rattle.command_files.specs.Ends.{IsReadToEnd}
 
 -- the file is there, with these bytes, of which there are at most 1 MiB
 pub record HasFile (name : List ℕ) (files : Files) (bytes : List ℕ) : Type 0 where
@@ -103,7 +104,7 @@ pub record IsUnacceptedFile (name : List ℕ) (files : Files) (why : PlanFault) 
   pub first : first_fault plan ≡ Some why
 
 -- PLAN is refused: itself, then its tap files one after another, and then the plan that they say
-abbrev pub IsRefusedPlan : List ℕ → Files → Fault → Type 0
+abbrev pub IsRefusedPlan : List ℕ → Files → CommandFault → Type 0
 IsRefusedPlan name files (fault.FileTooLong file.Plan) = IsTooLong name files
 IsRefusedPlan name files (fault.FileTooLong (file.Taps element)) = (text : PlanText) × SaysText name files text × HasLongTaps files text element
 IsRefusedPlan name files (fault.PlanRead why) = IsUnreadFile name files why
@@ -126,9 +127,13 @@ abbrev pub last_name : List ℕ → List TapFile → List ℕ
 last_name name [] = name
 last_name name (tap_file ∷ others) = last_name tap_file.name others
 
--- PLAN and its tap files were read to their end: the last of them is the input, and nothing of it is left
-pub record AreReadToEnd (plan : List ℕ) (old new : HostState) : Type 0 where
-  pub text : PlanText
-  pub says : SaysText plan old.files text
+-- PLAN and each of its tap files were read to their ends
+pub record AreEnded (plan : List ℕ) (text : PlanText) (old new : HostState) : Type 0 where
+  pub plan_ended : IsReadToEnd plan old new
+  pub taps_ended : All (λ tap_file. IsReadToEnd tap_file.name old new) text.files
+
+-- PLAN and each of its tap files were read to their ends, the last of them is the input, and nothing of it is left
+pub record AreReadToEnd (plan : List ℕ) (text : PlanText) (old new : HostState) : Type 0 where
+  pub each : AreEnded plan text old new
   pub input : new.input ≡ last_name plan text.files
   pub end : drop new.place (bytes_of old.files new.input) ≡ []

@@ -1,5 +1,5 @@
 -- The steps of reading PLAN and its tap files.
-use Rattle.std.specs.Prelude.{◌≡◌, ℕ, ℤ, List, [], Some, Result, Ok, Err, Vec, OnOk}
+use Rattle.std.specs.Prelude.{◌≡◌, ℕ, ℤ, List, [], Some, Result, Ok, Err, Vec, OnOk, IfOk, All}
 use Rattle.std.specs.declared.alloc.Global.{Global}
 use Rattle.mr_values.specs.Files.{Files}
 use Rattle.mr_values.specs.Host.{HostState, left_of}
@@ -12,21 +12,22 @@ use Rattle.plan_reader.specs.declared.plan_texts.PlanText.{PlanText}
 use Rattle.plan_reader.specs.declared.plan_texts.TapFile.{TapFile}
 use Rattle.plan_reader.specs.Documents.{Says}
 use Rattle.command_files.specs.declared.accept.AcceptedPlan.{AcceptedPlan}
-use Rattle.command_files.specs.declared.fault.Fault.{Fault}
-use Rattle.command_files.specs.declared.fault.Fault.TheVariants.{FileTooLong, HostFault, Memory, PlanRead, Tap}
-use Rattle.command_files.specs.declared.fault.Fault.TheVariants as fault
+use Rattle.command_files.specs.declared.fault.CommandFault.{CommandFault}
+use Rattle.command_files.specs.declared.fault.CommandFault.TheVariants.{FileTooLong, HostFault, Memory, PlanRead, Tap}
+use Rattle.command_files.specs.declared.fault.CommandFault.TheVariants as fault
 use Rattle.command_files.specs.declared.fault.FileKind.TheVariants.{Taps}
 use Rattle.command_files.specs.PlanFile.{HasTaps, Fills, IsTooLong, HasLongTaps, HasBadTaps, IsUnread, IsAcceptedFile, IsRefusedPlan, AreReadToEnd, last_name}
+use Rattle.command_files.specs.Ends.{IsReadToEnd}
 
 -- what is answered for the bytes of PLAN
-abbrev pub TextAnswer : List ℕ → Result PlanText Fault → Type 0
+abbrev pub TextAnswer : List ℕ → Result PlanText CommandFault → Type 0
 TextAnswer bytes (Ok text) = Says bytes (Ok text)
 TextAnswer bytes (Err (PlanRead why)) = IsUnread bytes why
 TextAnswer bytes (Err Memory) = Unit {0}
 TextAnswer bytes (Err _) = ⊥
 
 -- what is answered for a tap file. A blamed host call and want of memory are said elsewhere.
-abbrev pub TapsAnswer : TapFile → Files → Result (Vec ℤ Global) Fault → Type 0
+abbrev pub TapsAnswer : TapFile → Files → Result (Vec ℤ Global) CommandFault → Type 0
 TapsAnswer tap_file files (Ok taps) = HasTaps tap_file.name files (Ok taps.items)
 TapsAnswer tap_file files (Err (FileTooLong (Taps element))) = (element ≡ tap_file.element) × IsTooLong tap_file.name files
 TapsAnswer tap_file files (Err (Tap element row why)) = (element ≡ tap_file.element) × HasTaps tap_file.name files (Err (Bad row why))
@@ -36,14 +37,15 @@ TapsAnswer tap_file files (Err Memory) = Unit {0}
 TapsAnswer tap_file files (Err _) = ⊥
 
 -- a tap file was read: where all is well it is the input, and nothing of it is left
-pub record ReadsTaps (tap_file : TapFile) (result : Result (Vec ℤ Global) Fault) (old new : HostState) : Type 0 where
+pub record ReadsTaps (tap_file : TapFile) (result : Result (Vec ℤ Global) CommandFault) (old new : HostState) : Type 0 where
   pub answer : TapsAnswer tap_file old.files result
   pub input : OnOk result (new.input ≡ tap_file.name)
   pub end : OnOk result (left_of new ≡ [])
+  pub ended : OnOk result (IsReadToEnd tap_file.name old new)
   pub files : new.files ≡ old.files
 
 -- what is answered for the tap files of a text
-abbrev pub FillAnswer : PlanText → Files → Result Plan Fault → Type 0
+abbrev pub FillAnswer : PlanText → Files → Result Plan CommandFault → Type 0
 FillAnswer text files (Ok plan) = Fills files text.files text.plan plan
 FillAnswer text files (Err (FileTooLong (Taps element))) = HasLongTaps files text element
 FillAnswer text files (Err (Tap element row why)) = HasBadTaps files text element row why
@@ -53,10 +55,11 @@ FillAnswer text files (Err Memory) = Unit {0}
 FillAnswer text files (Err _) = ⊥
 
 -- the tap files of a text were read, after a file of which nothing was left
-pub record ReadsTapFiles (text : PlanText) (result : Result Plan Fault) (old new : HostState) : Type 0 where
+pub record ReadsTapFiles (text : PlanText) (result : Result Plan CommandFault) (old new : HostState) : Type 0 where
   pub answer : FillAnswer text old.files result
   pub input : OnOk result (new.input ≡ last_name old.input text.files)
   pub end : OnOk result (left_of old ≡ [] → left_of new ≡ [])
+  pub ended : OnOk result (All (λ tap_file. IsReadToEnd tap_file.name old new) text.files)
   pub files : new.files ≡ old.files
 
 -- a plan is accepted, and these are its facts; its elements are of version 1
@@ -66,14 +69,19 @@ pub record IsAcceptedPlan (accepted : AcceptedPlan) : Type 0 where
   pub first : AreFirst accepted.plan.elements
 
 -- what is answered for a plan
-abbrev pub CheckAnswer : Plan → Result AcceptedPlan Fault → Type 0
+abbrev pub CheckAnswer : Plan → Result AcceptedPlan CommandFault → Type 0
 CheckAnswer plan (Ok accepted) = (accepted.plan ≡ plan) × IsAcceptedPlan accepted
 CheckAnswer plan (Err (fault.Plan why)) = first_fault plan ≡ Some why
 CheckAnswer plan (Err Memory) = Unit {0}
 CheckAnswer plan (Err _) = ⊥
 
+-- PLAN was read with its tap files, and says this plan, which is accepted; each of these files was read to its end
+pub record IsReadPlan (name : List ℕ) (plan : Plan) (old new : HostState) : Type 0 where
+  pub file : IsAcceptedFile name old.files plan
+  pub ended : AreReadToEnd name file.says.text old new
+
 -- what is answered for PLAN and its tap files
-abbrev pub PlanAnswer : List ℕ → Files → Result AcceptedPlan Fault → Type 0
+abbrev pub PlanAnswer : List ℕ → Files → Result AcceptedPlan CommandFault → Type 0
 PlanAnswer name files (Ok accepted) = IsAcceptedFile name files accepted.plan
 PlanAnswer name files (Err (HostFault OpenInput)) = Unit {0}
 PlanAnswer name files (Err (HostFault Next)) = Unit {0}
@@ -81,7 +89,7 @@ PlanAnswer name files (Err Memory) = Unit {0}
 PlanAnswer name files (Err why) = IsRefusedPlan name files why
 
 -- PLAN and its tap files were read
-pub record ReadsPlan (name : List ℕ) (result : Result AcceptedPlan Fault) (old new : HostState) : Type 0 where
+pub record ReadsPlan (name : List ℕ) (result : Result AcceptedPlan CommandFault) (old new : HostState) : Type 0 where
   pub answer : PlanAnswer name old.files result
-  pub ended : OnOk result (AreReadToEnd name old new)
+  pub ended : IfOk result (λ accepted. IsReadPlan name accepted.plan old new)
   pub files : new.files ≡ old.files

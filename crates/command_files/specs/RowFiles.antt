@@ -6,9 +6,14 @@ use Rattle.mr_values.specs.Host.{HostState, left_of}
 use Rattle.mr_values.specs.declared.host.HostCall.TheVariants.{OpenInput, Next, OpenOutput, Put}
 use Rattle.sample_file.specs.declared.fault.LineFault.{LineFault}
 use Rattle.row_stream.specs.Giving.{Giving}
-use Rattle.command_files.specs.declared.fault.Fault.{Fault}
-use Rattle.command_files.specs.declared.fault.Fault.TheVariants.{HostFault, Memory, Line}
+use Rattle.command_files.specs.declared.fault.RowsFault.{RowsFault}
+use Rattle.command_files.specs.declared.fault.RowsFault.TheVariants.{HostFault, Memory, Line}
+use Rattle.command_files.specs.Ends.{IsReadToEnd}
 use Rattle.command_files.specs.WholeFiles.{IsEmptied, HoldsFront}
+
+-- the file is there
+abbrev pub IsThere : List ℕ → Files → Type 0
+IsThere name files = (bytes : List ℕ) × (get files name ≡ Some bytes)
 
 -- the input is there, and this text is given for its bytes; `last` is the fault of the line that is refused, if any
 pub record IsGiven (gives : Giving) (input : List ℕ) (files : Files) (text : List ℕ) (last : Option LineFault) : Type 0 where
@@ -22,7 +27,7 @@ pub record HoldsGiven (gives : Giving) (input output : List ℕ) (last : Option 
   pub given : IsGiven gives input old text last
   pub written : new ≡ insert old output text
 
--- the output holds a text that is given from its beginning, but not to its end, and no other file has changed
+-- the output holds a text that is given from its beginning, and no other file has changed
 pub record HoldsGivenFront (gives : Giving) (input output : List ℕ) (old new : Files) : Type 0 where
   pub text : List ℕ
   pub last : Option LineFault
@@ -34,14 +39,14 @@ pub record IsStreamed (gives : Giving) (input output : List ℕ) (old new : Host
   pub holds : HoldsGiven gives input output None old.files new.files
   pub read : new.input ≡ input
   pub end : left_of new ≡ []
+  pub ended : IsReadToEnd input old new
 
 -- each answer of the loop over the rows of a file, and the host after it
-abbrev pub RowsEnd : Giving → List ℕ → List ℕ → Result (Unit {0}) Fault → HostState → HostState → Type 0
+abbrev pub RowsEnd : Giving → List ℕ → List ℕ → Result (Unit {0}) RowsFault → HostState → HostState → Type 0
 RowsEnd gives input output (Ok done) old new = IsStreamed gives input output old new
 RowsEnd gives input output (Err (Line fault)) old new = HoldsGiven gives input output (Some fault) old.files new.files
 RowsEnd gives input output (Err (HostFault OpenInput)) old new = new.files ≡ old.files
-RowsEnd gives input output (Err (HostFault OpenOutput)) old new = IsEmptied output old.files new.files
+RowsEnd gives input output (Err (HostFault OpenOutput)) old new = IsThere input old.files × IsEmptied output old.files new.files
 RowsEnd gives input output (Err (HostFault Next)) old new = HoldsGivenFront gives input output old.files new.files
 RowsEnd gives input output (Err (HostFault Put)) old new = HoldsGivenFront gives input output old.files new.files
 RowsEnd gives input output (Err Memory) old new = (new.files ≡ old.files) ⊎ HoldsGivenFront gives input output old.files new.files
-RowsEnd gives input output (Err _) old new = ⊥

@@ -1,5 +1,5 @@
 -- TEXT as a module, and why it is refused.
-use Rattle.std.specs.Prelude.{◌≡◌, ℕ, ◌≤◌, ◌<◌, ◌^◌, List, length, Some, Result, Ok, Err}
+use Rattle.std.specs.Prelude.{◌≡◌, ℕ, ◌≤◌, ◌<◌, ◌^◌, List, length, Some, Result, Ok, Err, OnOk}
 use Rattle.std.specs.FinMap.{get}
 use Rattle.mr_values.specs.Files.{Files}
 use Rattle.mr_values.specs.Host.{HostState}
@@ -15,10 +15,11 @@ use Rattle.verilog_read.specs.declared.fault.ReadFault.{ReadFault}
 use Rattle.verilog_read.specs.declared.fault.ReadFault.TheVariants as reading
 use Rattle.verilog_read.specs.Answer.{IsStop}
 use Rattle.module_reader.specs.Reader.{FailsCheck}
-use Rattle.command_files.specs.declared.fault.Fault.{Fault}
-use Rattle.command_files.specs.declared.fault.Fault.TheVariants as fault
-use Rattle.command_files.specs.declared.fault.Fault.TheVariants.{HostFault, Memory}
+use Rattle.command_files.specs.declared.fault.CommandFault.{CommandFault}
+use Rattle.command_files.specs.declared.fault.CommandFault.TheVariants as fault
+use Rattle.command_files.specs.declared.fault.CommandFault.TheVariants.{HostFault, Memory}
 use Rattle.command_files.specs.declared.fault.FileKind.TheVariants as file
+use Rattle.command_files.specs.Ends.{IsReadToEnd}
 
 -- the file is there, with these bytes, of which there are at most 64 MiB
 pub record HasText (name : List ℕ) (files : Files) (bytes : List ℕ) : Type 0 where
@@ -55,23 +56,16 @@ IsUncheckedFor bytes check.Memory = ⊥
 IsUncheckedFor bytes why = FailsCheck bytes why
 
 -- TEXT is refused: it is too long, or no text of the grammar, or its module fails a check
-abbrev pub IsRefusedText : List ℕ → Files → Fault → Type 0
+abbrev pub IsRefusedText : List ℕ → Files → CommandFault → Type 0
 IsRefusedText name files (fault.FileTooLong file.Text) = IsLongText name files
 IsRefusedText name files (fault.Read why) = (bytes : List ℕ) × IsOtherText name files bytes × IsUnreadAt bytes why
 IsRefusedText name files (fault.Module why) = (bytes : List ℕ) × IsOtherText name files bytes × IsUncheckedFor bytes why
 IsRefusedText name files _ = ⊥
 
--- a refusal of TEXT as a fault of the command
-abbrev pub fault_of_text : ReadFault → Fault
-fault_of_text (reading.Module check.Memory) = Memory
-fault_of_text (reading.Module why) = fault.Module why
-fault_of_text reading.Memory = Memory
-fault_of_text why = fault.Read why
-
 -- ---- the steps of reading it
 
 -- what is answered for the bytes of TEXT
-abbrev pub BytesAnswer : List ℕ → Result Module Fault → Type 0
+abbrev pub BytesAnswer : List ℕ → Result Module CommandFault → Type 0
 BytesAnswer bytes (Ok design) = Reads bytes (design_view design) × Passes (design_view design)
 BytesAnswer bytes (Err (fault.Read why)) = ((design : Design) → Reads bytes design → ¬ Passes design) × IsUnreadAt bytes why
 BytesAnswer bytes (Err (fault.Module why)) = ((design : Design) → Reads bytes design → ¬ Passes design) × IsUncheckedFor bytes why
@@ -79,14 +73,15 @@ BytesAnswer bytes (Err Memory) = Unit {0}
 BytesAnswer bytes (Err _) = ⊥
 
 -- What is answered for TEXT. A blamed host call and want of memory are said elsewhere.
-abbrev pub DesignAnswer : List ℕ → Files → Result Module Fault → Type 0
+abbrev pub DesignAnswer : List ℕ → Files → Result Module CommandFault → Type 0
 DesignAnswer name files (Ok design) = IsTextFile name files (design_view design)
 DesignAnswer name files (Err (HostFault OpenInput)) = Unit {0}
 DesignAnswer name files (Err (HostFault Next)) = Unit {0}
 DesignAnswer name files (Err Memory) = Unit {0}
 DesignAnswer name files (Err why) = IsRefusedText name files why
 
--- TEXT was read
-pub record ReadsDesign (name : List ℕ) (result : Result Module Fault) (old new : HostState) : Type 0 where
+-- TEXT was read: where all is well, to its end
+pub record ReadsDesign (name : List ℕ) (result : Result Module CommandFault) (old new : HostState) : Type 0 where
   pub answer : DesignAnswer name old.files result
+  pub ended : OnOk result (IsReadToEnd name old new)
   pub files : new.files ≡ old.files

@@ -1,16 +1,16 @@
 // Plans and their tap files, read from a host, and which of them are accepted.
-ghost use Rattle.std.specs.Prelude.{◌≡◌, ◌≢◌, Err, IfOk, IsTrue};
+ghost use Rattle.std.specs.Prelude.{◌≡◌, IfOk, IfErr, IsTrue};
 ghost use Rattle.mr_values.specs.Value.{AreFirst};
 ghost use Rattle.command_files.specs.Ends.{EndsWith, IsThisFile, call_of};
-ghost use Rattle.command_files.specs.PlanFaults.{fault_of_reading, fault_of_taps, fault_of_check};
+ghost use Rattle.command_files.specs.Conversions.{fault_of_taps, IsPlain};
 ghost use Rattle.command_files.specs.PlanFile.{IsTapFile, IsOfPlan};
 ghost use Rattle.command_files.specs.Reading.{TextAnswer, ReadsTaps, ReadsTapFiles, IsAcceptedPlan, CheckAnswer, ReadsPlan};
 
 use crate::files::read_file;
-use crate::{Fault, FileKind};
+use crate::{CommandFault, FileKind};
 use mr_values::{Host, Plan};
-use plan_check::{Facts, PlanFault, check_plan};
-use plan_reader::{PlanReadFault, PlanText, TapFault, TapFile, read_plan, read_taps};
+use plan_check::{Facts, check_plan};
+use plan_reader::{PlanText, TapFault, TapFile, read_plan, read_taps};
 use std::alloc::Global;
 
 /// The most bytes of a plan file and of a tap file.
@@ -30,10 +30,10 @@ pub fn read_accepted<H: Host>(
     alloc: Global,
     host: &mut H,
     name: &str,
-) -> Result<AcceptedPlan, Fault>
+) -> Result<AcceptedPlan, CommandFault>
     ensures accepted { IfOk result IsAcceptedPlan }
+    ensures plain { IfErr result IsPlain }
     ensures cause { EndsWith (IsOfPlan name.now) (call_of result) (H.state host.old) (H.state host.new) }
-    ensures command { result ≢ Err Fault.Usage }
     ensures told { IsTrue (H.state host.old).tells → ReadsPlan name.now result (H.state host.old) (H.state host.new) }
 {
     let bytes = read_file(alloc, host, name, FileKind::Plan, FILE_LIMIT)?;
@@ -43,22 +43,24 @@ pub fn read_accepted<H: Host>(
 }
 
 // The plan that the bytes of PLAN say, and the tap files that they name.
-fn text_of(alloc: Global, bytes: &[u8]) -> Result<PlanText, Fault>
+fn text_of(alloc: Global, bytes: &[u8]) -> Result<PlanText, CommandFault>
+    ensures plain { IfErr result IsPlain }
     ensures answer { TextAnswer bytes.now result }
     ensures first { IfOk result (λ text. AreFirst text.plan.elements) }
 {
-    match read_plan(alloc, bytes) {
-        Ok(text) => Ok(text),
-        Err(why) => Err(fault_of_reading(why)),
-    }
+    Ok(read_plan(alloc, bytes)?)
 }
 
 // The plan with the taps of its tap files.
-fn read_tap_files<H: Host>(alloc: Global, host: &mut H, mut text: PlanText) -> Result<Plan, Fault>
+fn read_tap_files<H: Host>(
+    alloc: Global,
+    host: &mut H,
+    mut text: PlanText,
+) -> Result<Plan, CommandFault>
     requires first { AreFirst text.plan.elements }
     ensures first { IfOk result (λ plan. AreFirst plan.elements) }
+    ensures plain { IfErr result IsPlain }
     ensures cause { EndsWith (IsTapFile text) (call_of result) (H.state host.old) (H.state host.new) }
-    ensures command { result ≢ Err Fault.Usage }
     ensures told { IsTrue (H.state host.old).tells → ReadsTapFiles text result (H.state host.old) (H.state host.new) }
 {
     for index in 0..text.files.as_slice().len() {
@@ -71,9 +73,13 @@ fn read_tap_files<H: Host>(alloc: Global, host: &mut H, mut text: PlanText) -> R
     Ok(plan)
 }
 
-fn read_tap_file<H: Host>(alloc: Global, host: &mut H, file: &TapFile) -> Result<Vec<i64>, Fault>
+fn read_tap_file<H: Host>(
+    alloc: Global,
+    host: &mut H,
+    file: &TapFile,
+) -> Result<Vec<i64>, CommandFault>
+    ensures plain { IfErr result IsPlain }
     ensures cause { EndsWith (IsThisFile file.now.name) (call_of result) (H.state host.old) (H.state host.new) }
-    ensures command { result ≢ Err Fault.Usage }
     ensures told { IsTrue (H.state host.old).tells → ReadsTaps file.now result (H.state host.old) (H.state host.new) }
 {
     let kind = FileKind::Taps(file.element);
@@ -85,49 +91,20 @@ fn read_tap_file<H: Host>(alloc: Global, host: &mut H, file: &TapFile) -> Result
 }
 
 // The plan with its facts, where it passes all tests.
-fn accept(alloc: Global, plan: Plan) -> Result<AcceptedPlan, Fault>
+fn accept(alloc: Global, plan: Plan) -> Result<AcceptedPlan, CommandFault>
     requires { AreFirst plan.elements }
-    ensures { CheckAnswer plan result }
+    ensures plain { IfErr result IsPlain }
+    ensures answer { CheckAnswer plan result }
 {
-    match check_plan(alloc, &plan) {
-        Ok(facts) => Ok(AcceptedPlan { plan, facts }),
-        Err(why) => Err(fault_of_check(why)),
-    }
+    let facts = check_plan(alloc, &plan)?;
+    Ok(AcceptedPlan { plan, facts })
 }
 
-fn fault_of_reading(why: PlanReadFault) -> Fault
-    ensures { result ≡ fault_of_reading why }
-{
-    match why {
-        PlanReadFault::Memory => Fault::Memory,
-        PlanReadFault::NotToml => Fault::PlanRead(PlanReadFault::NotToml),
-        PlanReadFault::Field {
-            element,
-            field,
-            why,
-        } => Fault::PlanRead(PlanReadFault::Field {
-            element,
-            field,
-            why,
-        }),
-        PlanReadFault::Version { found } => Fault::PlanRead(PlanReadFault::Version { found }),
-    }
-}
-
-fn fault_of_taps(element: u32, why: TapFault) -> Fault
+fn fault_of_taps(element: u32, why: TapFault) -> CommandFault
     ensures { result ≡ fault_of_taps element why }
 {
     match why {
-        TapFault::Memory => Fault::Memory,
-        TapFault::Bad { row, why } => Fault::Tap { element, row, why },
-    }
-}
-
-fn fault_of_check(why: PlanFault) -> Fault
-    ensures { result ≡ fault_of_check why }
-{
-    match why {
-        PlanFault::Memory => Fault::Memory,
-        why => Fault::Plan(why),
+        TapFault::Memory => CommandFault::Memory,
+        TapFault::Bad { row, why } => CommandFault::Tap { element, row, why },
     }
 }

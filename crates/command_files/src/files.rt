@@ -1,9 +1,9 @@
 // Whole files, read from a host and written to it.
-ghost use Rattle.std.specs.Prelude.{◌≡◌, ◌≢◌, Err, IsTrue};
-ghost use Rattle.command_files.specs.Ends.{EndsWith, IsNoFile, IsThisFile, call_of};
+ghost use Rattle.std.specs.Prelude.{◌≡◌, IsTrue};
+ghost use Rattle.command_files.specs.Ends.{EndsWith, IsNoFile, IsThisFile, call_in_file, call_in_writing};
 ghost use Rattle.command_files.specs.WholeFiles.{ReadsFile, WritesFile};
 
-use crate::{Fault, FileKind};
+use crate::{FileFault, FileKind, WriteFault};
 use mr_values::{Host, HostCall, OutFail};
 use std::alloc::Global;
 
@@ -16,14 +16,13 @@ pub fn read_file<H: Host>(
     name: &str,
     file: FileKind,
     limit: usize,
-) -> Result<Vec<u8>, Fault>
-    ensures cause { EndsWith (IsThisFile name.now) (call_of result) (H.state host.old) (H.state host.new) }
-    ensures command { result ≢ Err Fault.Usage }
+) -> Result<Vec<u8>, FileFault>
+    ensures cause { EndsWith (IsThisFile name.now) (call_in_file result) (H.state host.old) (H.state host.new) }
     ensures output { (H.state host.new).has_output ≡ (H.state host.old).has_output }
     ensures told { IsTrue (H.state host.old).tells → ReadsFile name.now file limit result (H.state host.old) (H.state host.new) }
 {
     if host.open_input(name).is_err() {
-        return Err(Fault::HostFault {
+        return Err(FileFault::HostFault {
             call: HostCall::OpenInput,
         });
     }
@@ -31,7 +30,7 @@ pub fn read_file<H: Host>(
     let mut room = [0u8; ROOM];
     loop {
         let Ok(count) = host.next(&mut room) else {
-            return Err(Fault::HostFault {
+            return Err(FileFault::HostFault {
                 call: HostCall::Next,
             });
         };
@@ -39,33 +38,30 @@ pub fn read_file<H: Host>(
             return Ok(bytes);
         }
         if count > limit - bytes.len() {
-            return Err(Fault::FileTooLong { file });
+            return Err(FileFault::FileTooLong { file });
         }
-        if bytes.extend_from_slice(&room[..count]).is_err() {
-            return Err(Fault::Memory);
-        }
+        bytes.extend_from_slice(&room[..count])?;
     }
 }
 
 /// Writes a whole file.
-pub fn write_file<H: Host>(host: &mut H, name: &str, text: &[u8]) -> Result<(), Fault>
-    ensures cause { EndsWith IsNoFile (call_of result) (H.state host.old) (H.state host.new) }
-    ensures command { result ≢ Err Fault.Usage }
+pub fn write_file<H: Host>(host: &mut H, name: &str, text: &[u8]) -> Result<(), WriteFault>
+    ensures cause { EndsWith IsNoFile (call_in_writing result) (H.state host.old) (H.state host.new) }
     ensures told { IsTrue (H.state host.old).tells → WritesFile name.now text.now result (H.state host.old) (H.state host.new) }
 {
     match host.open_output(name) {
         Ok(()) => {}
-        Err(OutFail::Memory) => return Err(Fault::Memory),
+        Err(OutFail::Memory) => return Err(WriteFault::Memory),
         Err(OutFail::Failed) => {
-            return Err(Fault::HostFault {
+            return Err(WriteFault::HostFault {
                 call: HostCall::OpenOutput,
             });
         }
     }
     match host.put(text) {
         Ok(()) => Ok(()),
-        Err(OutFail::Memory) => Err(Fault::Memory),
-        Err(OutFail::Failed) => Err(Fault::HostFault {
+        Err(OutFail::Memory) => Err(WriteFault::Memory),
+        Err(OutFail::Failed) => Err(WriteFault::HostFault {
             call: HostCall::Put,
         }),
     }

@@ -3,17 +3,15 @@
 
 mod accept;
 mod fault;
-mod fault_lines;
-mod fault_words;
 mod files;
+mod laws;
 mod row_files;
-mod status;
 mod text;
 
 pub use accept::{AcceptedPlan, read_accepted};
-pub use fault::{Fault, FileKind};
+pub use fault::{CommandFault, FileFault, FileKind, RowsFault, WriteFault};
 pub use files::write_file;
+pub use laws::law_of_one_answer;
 pub use mr_values::HostCall;
 pub use row_files::stream_rows;
-pub use status::status_of;
 pub use text::read_design;

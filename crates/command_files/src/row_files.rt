@@ -2,11 +2,11 @@
 ghost use Rattle.std.specs.Prelude.{◌≡◌, ◌≢◌, ◌+◌, ◌*◌, ◌<◌, ◌≤◌, ◌^◌, ℕ, List, [], length, drop, true, false, Err, IsTrue, IfOk, OnOk};
 ghost use Rattle.std.specs.FinMap.{insert};
 ghost use Rattle.mr_values.specs.Files.{Files};
-ghost use Rattle.command_files.specs.Ends.{EndsWith, IsNoFile, IsThisFile, call_of};
+ghost use Rattle.command_files.specs.Ends.{EndsWith, IsNoFile, IsThisFile, call_in_rows};
 ghost use Rattle.command_files.specs.RowFiles.{RowsEnd};
 ghost use Rattle.command_files.specs.RowSteps.{OpensOut, PutsOut, HandsOn, TakesPiece, TakesRows, EndsOnce, EndsRows, none_left};
 
-use crate::Fault;
+use crate::RowsFault;
 use mr_values::{Host, HostCall, OutFail};
 use row_stream::{RowStream, StreamFault};
 use std::alloc::Global;
@@ -23,15 +23,14 @@ pub fn stream_rows<H: Host, S: RowStream>(
     input: &str,
     output: &str,
     stream: &mut S,
-) -> Result<(), Fault>
+) -> Result<(), RowsFault>
     requires { input.now ≢ output.now }
-    ensures cause { EndsWith (IsThisFile input.now) (call_of result) (H.state host.old) (H.state host.new) }
-    ensures command { result ≢ Err Fault.Usage }
+    ensures cause { EndsWith (IsThisFile input.now) (call_in_rows result) (H.state host.old) (H.state host.new) }
     ensures told { IsTrue (H.state host.old).tells → RowsEnd (S.gives stream.old) input.now output.now result (H.state host.old) (H.state host.new) }
 {
     stream.gives_some();
     if host.open_input(input).is_err() {
-        return Err(Fault::HostFault {
+        return Err(RowsFault::HostFault {
             call: HostCall::OpenInput,
         });
     }
@@ -42,17 +41,16 @@ pub fn stream_rows<H: Host, S: RowStream>(
 }
 
 // Makes or empties the output.
-fn open_out<H: Host>(host: &mut H, name: &str) -> Result<(), Fault>
-    ensures cause { EndsWith IsNoFile (call_of result) (H.state host.old) (H.state host.new) }
-    ensures command { result ≢ Err Fault.Usage }
+fn open_out<H: Host>(host: &mut H, name: &str) -> Result<(), RowsFault>
+    ensures cause { EndsWith IsNoFile (call_in_rows result) (H.state host.old) (H.state host.new) }
     ensures input { (H.state host.new).has_input ≡ (H.state host.old).has_input }
     ensures output { OnOk result ((H.state host.new).has_output ≡ true) }
     ensures told { IsTrue (H.state host.old).tells → OpensOut name.now result (H.state host.old) (H.state host.new) }
 {
     match host.open_output(name) {
         Ok(()) => Ok(()),
-        Err(OutFail::Memory) => Err(Fault::Memory),
-        Err(OutFail::Failed) => Err(Fault::HostFault {
+        Err(OutFail::Memory) => Err(RowsFault::Memory),
+        Err(OutFail::Failed) => Err(RowsFault::HostFault {
             call: HostCall::OpenOutput,
         }),
     }
@@ -64,12 +62,11 @@ fn take_rows<H: Host, S: RowStream>(
     host: &mut H,
     stream: &mut S,
     out: &mut Vec<u8>,
-) -> Result<(), Fault>
+) -> Result<(), RowsFault>
     requires input { (H.state host.old).has_input ≡ true }
     requires output { (H.state host.old).has_output ≡ true }
     requires room { out.old.items ≡ [] }
-    ensures cause { EndsWith IsNoFile (call_of result) (H.state host.old) (H.state host.new) }
-    ensures command { result ≢ Err Fault.Usage }
+    ensures cause { EndsWith IsNoFile (call_in_rows result) (H.state host.old) (H.state host.new) }
     ensures output { OnOk result ((H.state host.new).has_output ≡ true) }
     ensures room { OnOk result (out.new.items ≡ []) }
     ensures told { (base : Files) (sent : List ℕ) → IsTrue (H.state host.old).tells → (H.state host.old).input ≢ (H.state host.old).output → (H.state host.old).files ≡ insert base (H.state host.old).output sent
@@ -79,7 +76,7 @@ fn take_rows<H: Host, S: RowStream>(
     'pieces: loop {
         stream.gives_some();
         let Ok(count) = host.next(&mut room) else {
-            return Err(Fault::HostFault {
+            return Err(RowsFault::HostFault {
                 call: HostCall::Next,
             });
         };
@@ -97,11 +94,10 @@ fn take_piece<H: Host, S: RowStream>(
     piece: &[u8],
     stream: &mut S,
     out: &mut Vec<u8>,
-) -> Result<(), Fault>
+) -> Result<(), RowsFault>
     requires output { (H.state host.old).has_output ≡ true }
     requires room { out.old.items ≡ [] }
-    ensures cause { EndsWith IsNoFile (call_of result) (H.state host.old) (H.state host.new) }
-    ensures command { result ≢ Err Fault.Usage }
+    ensures cause { EndsWith IsNoFile (call_in_rows result) (H.state host.old) (H.state host.new) }
     ensures input { (H.state host.new).has_input ≡ (H.state host.old).has_input }
     ensures output { OnOk result ((H.state host.new).has_output ≡ true) }
     ensures room { OnOk result (out.new.items ≡ []) }
@@ -124,11 +120,10 @@ fn take_turn<H: Host, S: RowStream>(
     piece: &[u8],
     stream: &mut S,
     out: &mut Vec<u8>,
-) -> Result<usize, Fault>
+) -> Result<usize, RowsFault>
     requires output { (H.state host.old).has_output ≡ true }
     requires room { out.old.items ≡ [] }
-    ensures cause { EndsWith IsNoFile (call_of result) (H.state host.old) (H.state host.new) }
-    ensures command { result ≢ Err Fault.Usage }
+    ensures cause { EndsWith IsNoFile (call_in_rows result) (H.state host.old) (H.state host.new) }
     ensures input { (H.state host.new).has_input ≡ (H.state host.old).has_input }
     ensures output { OnOk result ((H.state host.new).has_output ≡ true) }
     ensures room { OnOk result (out.new.items ≡ []) }
@@ -151,11 +146,10 @@ fn end_rows<H: Host, S: RowStream>(
     host: &mut H,
     stream: &mut S,
     out: &mut Vec<u8>,
-) -> Result<(), Fault>
+) -> Result<(), RowsFault>
     requires output { (H.state host.old).has_output ≡ true }
     requires room { out.old.items ≡ [] }
-    ensures cause { EndsWith IsNoFile (call_of result) (H.state host.old) (H.state host.new) }
-    ensures command { result ≢ Err Fault.Usage }
+    ensures cause { EndsWith IsNoFile (call_in_rows result) (H.state host.old) (H.state host.new) }
     ensures told { IsTrue (H.state host.old).tells → EndsRows (S.gives stream.old) result (H.state host.old) (H.state host.new) }
 {
     'turns: loop {
@@ -170,11 +164,10 @@ fn end_turn<H: Host, S: RowStream>(
     host: &mut H,
     stream: &mut S,
     out: &mut Vec<u8>,
-) -> Result<bool, Fault>
+) -> Result<bool, RowsFault>
     requires output { (H.state host.old).has_output ≡ true }
     requires room { out.old.items ≡ [] }
-    ensures cause { EndsWith IsNoFile (call_of result) (H.state host.old) (H.state host.new) }
-    ensures command { result ≢ Err Fault.Usage }
+    ensures cause { EndsWith IsNoFile (call_in_rows result) (H.state host.old) (H.state host.new) }
     ensures output { OnOk result ((H.state host.new).has_output ≡ true) }
     ensures room { OnOk result (out.new.items ≡ []) }
     ensures less { IfOk result (λ done. done ≡ false → S.left stream.new < S.left stream.old) }
@@ -191,10 +184,9 @@ fn hand_on<H: Host, A: Copy>(
     host: &mut H,
     answer: Result<A, StreamFault>,
     out: &mut Vec<u8>,
-) -> Result<A, Fault>
+) -> Result<A, RowsFault>
     requires output { (H.state host.old).has_output ≡ true }
-    ensures cause { EndsWith IsNoFile (call_of result) (H.state host.old) (H.state host.new) }
-    ensures command { result ≢ Err Fault.Usage }
+    ensures cause { EndsWith IsNoFile (call_in_rows result) (H.state host.old) (H.state host.new) }
     ensures input { (H.state host.new).has_input ≡ (H.state host.old).has_input }
     ensures output { OnOk result ((H.state host.new).has_output ≡ true) }
     ensures room { OnOk result (out.new.items ≡ []) }
@@ -208,17 +200,16 @@ fn hand_on<H: Host, A: Copy>(
         }
         Err(StreamFault::Line(fault)) => {
             put_out(host, out)?;
-            Err(Fault::Line(fault))
+            Err(RowsFault::Line(fault))
         }
-        Err(StreamFault::Memory) => Err(Fault::Memory),
+        Err(StreamFault::Memory) => Err(RowsFault::Memory),
     }
 }
 
 // Puts an output, unless it is empty, and empties it.
-fn put_out<H: Host>(host: &mut H, out: &mut Vec<u8>) -> Result<(), Fault>
+fn put_out<H: Host>(host: &mut H, out: &mut Vec<u8>) -> Result<(), RowsFault>
     requires output { (H.state host.old).has_output ≡ true }
-    ensures cause { EndsWith IsNoFile (call_of result) (H.state host.old) (H.state host.new) }
-    ensures command { result ≢ Err Fault.Usage }
+    ensures cause { EndsWith IsNoFile (call_in_rows result) (H.state host.old) (H.state host.new) }
     ensures input { (H.state host.new).has_input ≡ (H.state host.old).has_input }
     ensures output { OnOk result ((H.state host.new).has_output ≡ true) }
     ensures room { OnOk result (out.new.items ≡ []) }
@@ -232,8 +223,8 @@ fn put_out<H: Host>(host: &mut H, out: &mut Vec<u8>) -> Result<(), Fault>
             out.clear();
             Ok(())
         }
-        Err(OutFail::Memory) => Err(Fault::Memory),
-        Err(OutFail::Failed) => Err(Fault::HostFault {
+        Err(OutFail::Memory) => Err(RowsFault::Memory),
+        Err(OutFail::Failed) => Err(RowsFault::HostFault {
             call: HostCall::Put,
         }),
     }

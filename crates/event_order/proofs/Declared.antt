@@ -1,17 +1,17 @@
 -- In a module that passes the checks the declared names are different, and all registers to which blocks give values are among them.
-use Rattle.std.proofs.Common.{◌≡◌, ℕ, zero, suc, Bool, true, false, not, ◌||◌, List, [], ◌∷◌, map, cond, Option, None, Some, ◌⊎◌, inl, inr, slice_get, refl, sym, ap, ◌∙◌, arith, find, subst}
-use Rattle.std.specs.Prelude.{◌==◌, is_some}
+use Rattle.std.proofs.Common.{◌≡◌, ℕ, zero, suc, Bool, true, false, not, ◌||◌, List, [], ◌∷◌, map, cond, Some, ◌⊎◌, inl, inr, slice_get, refl, sym, ap, ◌∙◌, arith, find, subst}
+use Rattle.std.specs.Prelude.{◌==◌, nat_le, is_some}
 use Rattle.std.proofs.lemmas.Bool.{eqb-true}
 use Rattle.verilog_tree.specs.declared.tree.Signal.{Signal}
 use Rattle.verilog_tree.specs.Tree.{Tree, Trees, Name, Bit, Part, Plain, Based, Cat, Not, Binary, Shift, Choice, none, more, Action, Actions, Block, When, Either, Give, no_action, action, Assignment, Design}
-use Rattle.verilog_tree.specs.Meaning.{Values, assigned}
+use Rattle.verilog_tree.specs.Meaning.{assigned}
 use Rattle.verilog_tree.specs.Names.{shapes_of, declaration_in}
 use Rattle.verilog_tree.specs.Circuit.{Process}
-use Rattle.verilog_tree.specs.Cycle.{sets, any_sets, circuit_of, process_of, condition_holds}
-use Rattle.verilog_tree.specs.Checks.{Use, Assigned, Given, Read, Selected, used_name, tree_uses, trees_uses, action_uses, actions_uses, blocks_uses, assigns_uses, uses, is_declared, declarations, Passes, filter_face}
+use Rattle.verilog_tree.specs.Cycle.{sets, any_sets, circuit_of, condition_holds}
+use Rattle.verilog_tree.specs.Checks.{Use, Given, used_name, tree_uses, trees_uses, action_uses, actions_uses, blocks_uses, assigns_uses, uses, is_declared, with_declaration, in_text_order, declarations, Passes, filter_face}
 use Rattle.verilog_tree.proofs.OneSettling.{gives_only, block_at}
 use Rattle.module_laws.proofs.Passing.{none_fails, none_mapped}
-use Rattle.module_laws.proofs.TextOrder.{Every, nothing_found, none_repeats, apart_from, IsApart, AllApart}
+use Rattle.module_laws.proofs.TextOrder.{Every, nothing_found, none_repeats, IsApart, AllApart}
 use Rattle.event_order.specs.Drawn.{declared_names}
 use Rattle.event_order.proofs.Moments.{same_some}
 use Rattle.event_order.proofs.DrawnSteps.{NamesRegisters}
@@ -24,7 +24,7 @@ either false b e = inr e
 
 module _ (P : Use → Type 0) where
   mutual
-    behind_tree : (e : Tree) (rest : List Use) → Every P (tree_uses e rest) → Every P rest
+    pub behind_tree : (e : Tree) (rest : List Use) → Every P (tree_uses e rest) → Every P rest
     behind_tree (Name n) rest all = all.1
     behind_tree (Bit n place) rest all = all.1
     behind_tree (Part n high low) rest all = all.1
@@ -41,7 +41,7 @@ module _ (P : Use → Type 0) where
     behind_trees (more first others) rest all = behind_trees others rest (behind_tree first (trees_uses others rest) all)
 
   mutual
-    behind_action : (s : Action) (rest : List Use) → Every P (action_uses s rest) → Every P rest
+    pub behind_action : (s : Action) (rest : List Use) → Every P (action_uses s rest) → Every P rest
     behind_action (Block members) rest all = behind_actions members rest all
     behind_action (When c first) rest all = behind_action first rest (behind_tree c (action_uses first rest) all)
     behind_action (Either c first second) rest all = behind_action second rest (behind_action first (action_uses second rest) (behind_tree c (action_uses first (action_uses second rest)) all))
@@ -74,7 +74,7 @@ module _ (P : Use → Type 0) where
           | inr later ↦ any_set_in others rest register (behind_action first (actions_uses others rest) all) later
         ]
 
-  behind_assigns : (assigns : List Assignment) (rest : List Use) → Every P (assigns_uses assigns rest) → Every P rest
+  pub behind_assigns : (assigns : List Assignment) (rest : List Use) → Every P (assigns_uses assigns rest) → Every P rest
   behind_assigns [] rest all = all
   behind_assigns (a ∷ assigns) rest all = behind_assigns assigns rest (behind_tree a.value (assigns_uses assigns rest) all.1)
 
@@ -106,6 +106,27 @@ declared_place (s ∷ ss) n is = by (s.name == n) refl is (declared_place ss n)
     by true e holds rest = (0, ap Some (eqb-true s.name n e))
     by false e holds rest = let found = rest holds in (suc found.0, found.1)
 
+-- a declared name stands in text order too
+abbrev Stands : List Signal → ℕ → Type 0
+Stands ss n = (k : ℕ) × (slice_get (map (λ (s : Signal). s.name) ss) k ≡ Some n)
+
+with_others : (s : Signal) (ts : List Signal) (n : ℕ) → (s.name ≡ n) ⊎ Stands ts n → Stands (with_declaration s ts) n
+with_others s [] n (inl is) = (0, ap Some is)
+with_others s [] n (inr (j, at)) = absurd (grind arith)
+with_others s (t ∷ ts) n which = by (nat_le s.place t.place) (with_others s ts n) which
+  where
+    by : (b : Bool) → ((s.name ≡ n) ⊎ Stands ts n → Stands (with_declaration s ts) n) → (s.name ≡ n) ⊎ Stands (t ∷ ts) n → Stands (cond b (s ∷ t ∷ ts) (t ∷ with_declaration s ts)) n
+    by true rest (inl is) = (0, ap Some is)
+    by true rest (inr (j, at)) = (suc j, at)
+    by false rest (inl is) = let found = rest (inl is) in (suc found.0, found.1)
+    by false rest (inr (zero, at)) = (0, at)
+    by false rest (inr (suc j, at)) = let found = rest (inr (j, at)) in (suc found.0, found.1)
+
+in_order : (ss : List Signal) (n i : ℕ) → slice_get (map (λ (s : Signal). s.name) ss) i ≡ Some n → Stands (in_text_order ss) n
+in_order [] n i at = absurd (grind arith)
+in_order (s ∷ ss) n zero at = with_others s (in_text_order ss) n (inl (same_some s.name n at))
+in_order (s ∷ ss) n (suc i) at = with_others s (in_text_order ss) n (inr (in_order ss n i at))
+
 not_false : (b : Bool) → not b ≡ false → b ≡ true
 not_false true is = refl
 not_false false is = absurd (grind arith)
@@ -115,11 +136,13 @@ names_registers d passes =
     let fails = none_fails filter_face d passes.early in
     let declared = nothing_found (λ u. not (is_declared d (used_name u))) (uses d) (none_mapped used_name (find (λ u. not (is_declared d (used_name u))) (uses d)) fails.undeclares) in
     record {
-      apart = apart_places d.signals (apart_from d.signals (none_repeats [] (declarations d) fails.redeclares).0);
+      apart = apart_places (declarations d) (none_repeats [] (declarations d) fails.redeclares).0;
       covers = λ k p values register x at gives.
           let block = block_at d k p at in
           let is_set = gives_only (condition_holds (shapes_of d) values) (assigned (shapes_of d) values) register block.0 x (ap (λ (q : Process). q values register) block.2 ∙ gives) in
           let used = behind_assigns (λ u. not (is_declared d (used_name u)) ≡ false) d.assigns (blocks_uses d.blocks) declared in
+          let place =
           declared_place d.signals register (not_false (is_declared d register)
-          (block_sets (λ u. not (is_declared d (used_name u)) ≡ false) d.blocks k register block.0 used block.1 is_set));
+          (block_sets (λ u. not (is_declared d (used_name u)) ≡ false) d.blocks k register block.0 used block.1 is_set)) in
+          in_order d.signals register place.0 place.1;
     }

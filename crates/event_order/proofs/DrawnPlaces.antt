@@ -1,12 +1,11 @@
 -- Steps that are drawn one after the other: each may come next, and in the end all that have to come were taken.
 use Rattle.std.proofs.Common.{◌≡◌, ℕ, zero, suc, ◌+◌, ◌<◌, ◌≤◌, ◌%◌, Bool, true, false, not, ◌&&◌, ◌||◌, List, [], ◌∷◌, ◌++◌, ◌⊎◌, inl, inr, refl, sym, ap, ◌∙◌, arith}
 use Rattle.std.specs.Prelude.{◌==◌}
-use Rattle.std.specs.List.{list_any}
 use Rattle.std.proofs.Math.Nat.{mod-lt}
 use Rattle.std.proofs.lemmas.Bool.{eqb-true, eq-eqb, ne_eqb}
 use Rattle.std.proofs.lemmas.List.Folds.{list_any-append}
 use Rattle.draws.specs.Draw.{drawn}
-use Rattle.event_order.specs.Drawn.{state_after, how_many, place_of, Kind, drawn_place, drawn_places, is_taken}
+use Rattle.event_order.specs.Drawn.{state_after, how_many, Kind, drawn_place, drawn_places, is_taken}
 use Rattle.event_order.proofs.Counting.{count-same, count-one, count-more, count-none, count-empty, some_or_none, HasNumber, place-found}
 
 -- ---- what was taken

@@ -10,7 +10,7 @@ use Rattle.verilog_tree.specs.Meaning.{Values}
 use Rattle.verilog_tree.specs.Circuit.{Driver, Process, Circuit, IsSettled, IsSettling, IsSound, IsLevelled, HasNoLoop, Input, with_inputs, given_by}
 use Rattle.verilog_tree.proofs.Settling.{one_settling}
 use Rattle.event_order.specs.Order.{Moment, Step, Evaluate, Run, Update, reads_at, evaluated, ran, updated, IsStep, Leads, is_evaluation, is_update, is_run, with_inputs_set, IsQuiet, HasRun, IsUpdated, IsOrder, IsStart, AreInputs}
-use Rattle.event_order.specs.Drawn.{state_after, how_many, Kind, drawn_place, drawn_places, is_taken, reads_wire, open_reads, evaluations, runs, is_given, updates, update_count, drawn_steps}
+use Rattle.event_order.specs.Drawn.{state_after, how_many, drawn_place, drawn_places, is_taken, reads_wire, open_reads, evaluations, runs, is_given, updates, update_count, drawn_steps}
 use Rattle.event_order.proofs.Counting.{count-all, count-none, count-empty, some_or_none}
 use Rattle.event_order.proofs.DrawnPlaces.{taken-new, taken-other, taken-kept, taken-either, Proceeds, drawn_next, all_taken}
 use Rattle.event_order.proofs.Moments.{same_some, reads_here, steps_keep}

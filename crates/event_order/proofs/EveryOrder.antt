@@ -6,6 +6,7 @@ use Rattle.verilog_tree.specs.Meaning.{Values}
 use Rattle.verilog_tree.specs.Circuit.{put, Process, Circuit, IsSource, IsSettled, IsSettling, IsSound, HasNoLoop, later, given_by, next, Input, with_inputs, IsRun}
 use Rattle.event_order.specs.Order.{Moment, Step, Evaluate, Run, Update, changed, ran, updated, IsStep, is_evaluation, is_update, is_run, with_inputs_set, HasRun, IsUpdated, CycleSteps, IsOrder, IsAwake, IsStart, AreInputs, AreOrders, first_moment}
 use Rattle.verilog_tree.proofs.Settling.{exactly_one}
+use Rattle.event_order.specs.Laws.{AreNext}
 use Rattle.event_order.proofs.Moments.{same_some, source_awake, evaluated_awake, evaluated_source, evaluated_settled, steps_keep}
 
 -- ---- the values that the blocks give
@@ -227,23 +228,26 @@ alike_inputs c [] v w alike = alike
 alike_inputs c (i ∷ is) v w alike = alike_inputs c is (put v i.name i.value) (put w i.name i.value) (alike_put c v w i.name i.value alike)
 
 module _ (c : Circuit) (sound : IsSound c) where
-  -- the outputs of every cycle are read from the settled values of a run
-  pub every_run : (cycles : List (List Input)) (content : Values) (start : Moment) (reads : List Values) (after : Moment)
-      → All (AreInputs c) cycles → Alike c start.values content → IsStart c start → AreOrders c cycles start reads after → IsRun c content cycles reads
-  every_run [] content start reads after are alike begins orders = orders.0
-  every_run (inputs ∷ cycles) content start reads after are alike begins (steps, read, middle, rest, is, order, more) =
+  pub first_start : (content : Values) → IsStart c (first_moment content)
+  first_start content = record { awake = λ k d at quiet. absurd (grind arith); is_updated = λ register. refl }
+
+  -- the outputs of every cycle are read from the settled values of a run, and its registers end as the next ones
+  pub every_run : (cycles : List (List Input)) (content : Values) (start : Moment) (reads ends : List Values)
+      → All (AreInputs c) cycles → Alike c start.values content → IsStart c start → AreOrders c cycles start reads ends → IsRun c content cycles reads × AreNext c reads ends
+  every_run [] content start reads ends are alike begins orders = (orders.0, subst (λ (values : List Values). AreNext c values ends) (sym orders.0) orders.1)
+  every_run (inputs ∷ cycles) content start reads ends are alike begins (steps, read, middle, rest, later, is, is_end, order, more) =
       let one = every_order c sound inputs start steps read middle (are 0 inputs (omega arith)) begins order in
+      let further = every_run cycles (next c read.values) middle rest later (λ k d lt. are (suc k) d (omega (arith, lt))) one.1 one.2 more in
       let settling : IsSettling c (with_inputs inputs content) read.values = record {
         sources = λ n source. one.0.sources n source ∙ alike_inputs c inputs start.values content alike n source;
         settled = one.0.settled;
       } in
-      (read.values, rest, is, settling, every_run cycles (next c read.values) middle rest after (λ k d lt. are (suc k) d (omega (arith, lt))) one.1 one.2 more)
+      ((read.values, rest, is, settling, further.0), subst (λ (values : List Values). AreNext c values ends) (sym is) (middle.values, later, is_end, one.1, further.1))
 
   -- from any content of the registers and wires, with every assignment pending
-  pub every_run_from : (cycles : List (List Input)) (content : Values) (reads : List Values) (after : Moment)
-      → All (AreInputs c) cycles → AreOrders c cycles (first_moment content) reads after → IsRun c content cycles reads
-  every_run_from cycles content reads after are orders =
-      every_run cycles content (first_moment content) reads after are (λ n source. refl) (record { awake = λ k d at quiet. absurd (grind arith); is_updated = λ register. refl }) orders
+  pub every_run_from : (cycles : List (List Input)) (content : Values) (reads ends : List Values)
+      → All (AreInputs c) cycles → AreOrders c cycles (first_moment content) reads ends → IsRun c content cycles reads × AreNext c reads ends
+  every_run_from cycles content reads ends are orders = every_run cycles content (first_moment content) reads ends are (λ n source. refl) (first_start content) orders
 
   -- a circuit without a loop has no second run
   pub one_run : HasNoLoop c → (cycles : List (List Input)) (a b : Values) (s t : List Values) → Alike c a b → IsRun c a cycles s → IsRun c b cycles t → s ≡ t

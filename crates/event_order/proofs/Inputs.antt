@@ -27,7 +27,7 @@ module _ (d : Design) (passes : Passes d) (distinct : AreDistinct d.names) where
   none_inputs : All Undriven []
   none_inputs k e lt = absurd (omega (arith, lt))
 
-  of_cycle : (c : Cycle) → AreInputs (circuit_of d) (inputs_of (ports_of d) c)
+  pub of_cycle : (c : Cycle) → AreInputs (circuit_of d) (inputs_of (ports_of d) c)
   of_cycle c =
       let rst : Input = record { name = number_of d (codes "rst"); value = bit_of c.rst } in
       let ce : Input = record { name = number_of d (codes "ce"); value = bit_of c.ce } in

@@ -7,3 +7,5 @@ pub mod EveryOrder
 pub mod FirstDraw
 pub mod Inputs
 pub mod Moments
+pub mod ReadNames
+pub mod Registers

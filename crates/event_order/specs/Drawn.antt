@@ -5,6 +5,7 @@ use Rattle.std.specs.List.{list_any}
 use Rattle.std.specs.Option.{option_map_or}
 use Rattle.draws.specs.Draw.{next_state, drawn}
 use Rattle.verilog_tree.specs.declared.tree.Signal.{Signal}
+use Rattle.verilog_tree.specs.Checks.{declarations}
 use Rattle.verilog_tree.specs.Tree.{Design}
 use Rattle.verilog_tree.specs.Meaning.{Values}
 use Rattle.verilog_tree.specs.Circuit.{Circuit, given_by}
@@ -98,6 +99,6 @@ state_after_cycle c names values state = state_after state (length c.drivers + l
 abbrev pub last_evaluated : Circuit → ℕ → ℕ
 last_evaluated c state = get_or (drawn_places (evaluations c) state (length c.drivers)) (length c.drivers - 1) 0
 
--- the names of a module in the order of their declarations
+-- the declared names of a module in text order
 abbrev pub declared_names : Design → List ℕ
-declared_names d = map (λ (s : Signal). s.name) d.signals
+declared_names d = map (λ (s : Signal). s.name) (declarations d)

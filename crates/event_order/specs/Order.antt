@@ -122,12 +122,12 @@ abbrev pub AreInputs : Circuit → List Input → Type 0
 AreInputs c inputs = All (λ (i : Input). (k : ℕ) (d : Driver) → slice_get c.drivers k ≡ Some d → d.target ≡ i.name → ⊥) inputs
 
 -- orders of a list of cycles, one after the other: what is pending at the end of one is carried into the next. The outputs of
--- each cycle are read from the values of `reads`
-abbrev pub AreOrders : Circuit → List (List Input) → Moment → List Values → Moment → Type 0
-AreOrders c [] start reads after = (reads ≡ []) × (after ≡ start)
-AreOrders c (inputs ∷ cycles) start reads after =
-    (steps : CycleSteps) × (read : Moment) × (middle : Moment) × (rest : List Values)
-    × (reads ≡ read.values ∷ rest) × IsOrder c inputs start steps read middle × AreOrders c cycles middle rest after
+-- each cycle are read from the values of `reads`, and it ends with those of `ends`
+abbrev pub AreOrders : Circuit → List (List Input) → Moment → List Values → List Values → Type 0
+AreOrders c [] start reads ends = (reads ≡ []) × (ends ≡ [])
+AreOrders c (inputs ∷ cycles) start reads ends =
+    (steps : CycleSteps) × (read : Moment) × (middle : Moment) × (rest : List Values) × (later : List Values)
+    × (reads ≡ read.values ∷ rest) × (ends ≡ middle.values ∷ later) × IsOrder c inputs start steps read middle × AreOrders c cycles middle rest later
 
 -- the moment before the first cycle, with any content: every assignment is pending
 abbrev pub first_moment : Values → Moment

@@ -4,6 +4,3 @@
 mod text;
 
 pub use text::extreme_text;
-
-#[cfg(test)]
-mod tests;

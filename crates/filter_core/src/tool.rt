@@ -1,14 +1,19 @@
 // The top call.
-ghost use Rattle.std.specs.Prelude.{◌≡◌, ℕ, List, ◌↔◌, ◌≢◌, Err, IsOkUnless, map, IsTrue, string_bytes, Some, None};
+ghost use Rattle.std.specs.Prelude.{◌≡◌, ℕ, List, ◌↔◌, IfErr, IfSome, IsOkUnless, map, IsTrue, string_bytes, Some, None};
 ghost use Rattle.mr_values.specs.Faults.{IsRisen};
 ghost use Rattle.filter_core.specs.CommandWords.{CommandWords, AreApart, compile_words, words_of, command_of};
 ghost use Rattle.plan_commands.specs.Compile.{IsCompiled};
 ghost use Rattle.command_files.specs.Ends.{EndsWith, call_of};
-ghost use Rattle.command_files.specs.Statuses.{status_of};
-ghost use Rattle.filter_core.specs.Tool.{CommandEnds, ToolEnds, IsUnbuilt, IsUnbuiltBy, IsReady, IsReadFor, IsReadBy, result_of};
+ghost use Rattle.command_files.specs.Conversions.{IsPlain};
+ghost use Rattle.filter_core.specs.Answers.{blamed, IsPlainFault};
+ghost use Rattle.filter_core.specs.Statuses.{status_of};
+ghost use Rattle.filter_core.specs.Tool.{CommandEnds, ToolEnds, IsReady, IsReadFor, IsReadBy, result_of};
 
+use crate::fault::Fault;
+use crate::status::status_of;
 use crate::words::{Command, read_words};
-use command_files::{Fault, status_of};
+use command_files::CommandFault;
+use demo_command::demo;
 use mr_values::Host;
 use plan_commands::{compile, extreme, noble, run_plan};
 use std::alloc::Global;
@@ -30,45 +35,59 @@ pub fn filter_tool<H: Host>(alloc: Global, words: &[String], host: &mut H) -> Ou
     ensures untouched { result.fault ≡ Some Fault.Usage → H.state host.new ≡ H.state host.old }
 
     // A blamed host call has failed, and over told files it was struck, or a file isn't there.
-    ensures cause { EndsWith (IsReadBy (command_of (map string_bytes words.now))) (call_of (result_of result.fault)) (H.state host.old) (H.state host.new) }
+    ensures cause { EndsWith (IsReadBy (command_of (map string_bytes words.now))) (blamed result.fault) (H.state host.old) (H.state host.new) }
 
-    // A command that isn't built is refused at once.
-    ensures unbuilt { IsUnbuiltBy (command_of (map string_bytes words.now)) (result_of result.fault) (H.state host.old) (H.state host.new) }
+    // A fault holds no want of memory but its own, whatever the host tells.
+    ensures plain { IfSome result.fault IsPlainFault }
 
     // The headline: what a compiled plan's text shows is exactly the plan's chain.
     ensures headline { (plan text report : List ℕ) → command_of (map string_bytes words.now) ≡ Some (compile_words plan text report) → IsTrue (H.state host.old).tells → result.fault ≡ None
         → IsCompiled plan text report (H.state host.old) (H.state host.new) }
 
     // What each answer says of the files, before and after.
-    ensures told { IsTrue (H.state host.old).tells → ToolEnds (command_of (map string_bytes words.now)) (result_of result.fault) (H.state host.old) (H.state host.new) }
+    ensures told { IsTrue (H.state host.old).tells → ToolEnds (command_of (map string_bytes words.now)) result.fault (H.state host.old) (H.state host.new) }
 
     // A command whose files are there and accepted is done, unless a host call or memory fails.
     ensures complete { (command : CommandWords) → command_of (map string_bytes words.now) ≡ Some command → IsTrue (H.state host.old).tells → IsReady command (H.state host.old).files
         → ¬ IsRisen (H.state host.old).struck (H.state host.new).struck → IsOkUnless (result_of result.fault) Fault.Memory }
 {
-    let fault = match read_words(words) {
-        Some(command) => match run(alloc, command, host) {
-            Ok(()) => None,
-            Err(fault) => Some(fault),
-        },
-        None => Some(Fault::Usage),
-    };
+    let fault = answer(alloc, words, host);
     Outcome {
         status: status_of(&fault),
         fault,
     }
 }
 
-fn run<H: Host>(alloc: Global, command: Command<'_>, host: &mut H) -> Result<(), Fault>
+// The fault of the command that the words are, or of words that are none.
+fn answer<H: Host>(alloc: Global, words: &[String], host: &mut H) -> Option<Fault>
+    ensures usage { (result ≡ Some Fault.Usage) ↔ (command_of (map string_bytes words.now) ≡ None) }
+    ensures untouched { result ≡ Some Fault.Usage → H.state host.new ≡ H.state host.old }
+    ensures cause { EndsWith (IsReadBy (command_of (map string_bytes words.now))) (blamed result) (H.state host.old) (H.state host.new) }
+    ensures plain { IfSome result IsPlainFault }
+    ensures headline { (plan text report : List ℕ) → command_of (map string_bytes words.now) ≡ Some (compile_words plan text report) → IsTrue (H.state host.old).tells → result ≡ None
+        → IsCompiled plan text report (H.state host.old) (H.state host.new) }
+    ensures told { IsTrue (H.state host.old).tells → ToolEnds (command_of (map string_bytes words.now)) result (H.state host.old) (H.state host.new) }
+    ensures complete { (command : CommandWords) → command_of (map string_bytes words.now) ≡ Some command → IsTrue (H.state host.old).tells → IsReady command (H.state host.old).files
+        → ¬ IsRisen (H.state host.old).struck (H.state host.new).struck → IsOkUnless (result_of result) Fault.Memory }
+{
+    match read_words(words) {
+        Some(command) => match run(alloc, command, host) {
+            Ok(()) => None,
+            Err(why) => Some(Fault::from(why)),
+        },
+        None => Some(Fault::Usage),
+    }
+}
+
+fn run<H: Host>(alloc: Global, command: Command<'_>, host: &mut H) -> Result<(), CommandFault>
     requires { AreApart (words_of command) }
     ensures headline { (plan text report : List ℕ) → words_of command.entry ≡ compile_words plan text report → IsTrue (H.state host.old).tells → result ≡ Ok tt
         → IsCompiled plan text report (H.state host.old) (H.state host.new) }
     ensures cause { EndsWith (IsReadFor (words_of command.entry)) (call_of result) (H.state host.old) (H.state host.new) }
     ensures told { IsTrue (H.state host.old).tells → CommandEnds (words_of command.entry) result (H.state host.old) (H.state host.new) }
-    ensures command { result ≢ Err Fault.Usage }
-    ensures unbuilt { IsUnbuilt (words_of command.entry) result (H.state host.old) (H.state host.new) }
+    ensures plain { IfErr result IsPlain }
     ensures complete { IsTrue (H.state host.old).tells → IsReady (words_of command.entry) (H.state host.old).files
-        → ¬ IsRisen (H.state host.old).struck (H.state host.new).struck → IsOkUnless result Fault.Memory }
+        → ¬ IsRisen (H.state host.old).struck (H.state host.new).struck → IsOkUnless result CommandFault.Memory }
 {
     match command {
         Command::Compile { plan, text, report } => compile(alloc, plan, text, report, host),
@@ -90,6 +109,6 @@ fn run<H: Host>(alloc: Global, command: Command<'_>, host: &mut H) -> Result<(),
             out,
         } => extreme(alloc, plan, register, out, host),
         Command::Noble { plan, out } => noble(alloc, plan, out, host),
-        Command::Demo { .. } => Err(Fault::NotBuilt),
+        Command::Demo { number, out } => demo(alloc, number, out, host),
     }
 }

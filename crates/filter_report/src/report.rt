@@ -56,6 +56,6 @@ pub fn report_text(alloc: Global, facts: &Facts, chain: &ChainModule) -> Result<
 {
     let mut text = plan_lines(alloc, facts, chain.output)?;
     put_groups(&mut text, &chain.costs)?;
-    put_registers(&mut text, &chain.design, &chain.extremes)?;
+    put_registers(&mut text, chain.design.tree(), &chain.extremes)?;
     Ok(text)
 }

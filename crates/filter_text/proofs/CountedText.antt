@@ -1,21 +1,17 @@
 -- What the groups of a plan cost, counted in the module that is read.
-use Rattle.std.proofs.Common.{◌≡◌, ℕ, zero, suc, ◌+◌, ◌<◌, ◌≤◌, ◌^◌, Bool, true, cond, List, [], ◌∷◌, length, map, Option, None, Some, slice_get, refl, sym, ◌∙◌, ap, arith}
+use Rattle.std.proofs.Common.{◌≡◌, ℕ, suc, ◌+◌, ◌<◌, ◌≤◌, ◌^◌, Bool, cond, List, [], ◌∷◌, length, map, None, Some, refl, sym, ◌∙◌, ap, arith}
 use Rattle.std.specs.Prelude.{◌&&◌, count_by, ℤ}
-use Rattle.std.proofs.lemmas.Bool.{eq-eqb}
 use Rattle.std.proofs.lemmas.List.Sums.{sum_by-cons}
-use Rattle.std.proofs.lemmas.Option.{slice_get_within}
 use Rattle.mr_values.specs.declared.plan.Element.{Element}
 use Rattle.mr_values.specs.declared.plan.Element.TheVariants.{Up, Down, Filter, CicDown, CicUp, Round, Clip}
 use Rattle.mr_values.specs.declared.plan.Form.{Form}
 use Rattle.mr_values.specs.Timing.{Group, Fir, DownCic, UpCic, Rounding, Clipping, join_up, join_filter, groups}
 use Rattle.mr_values.specs.Value.{size}
 use Rattle.net_graph.specs.declared.cell.Cell.{Cell}
-use Rattle.net_graph.specs.declared.name.Name.{Name}
-use Rattle.net_graph.specs.Count.{total, table, tables_in, is_table, has_kind, one_if}
 use Rattle.net_graph.specs.WellFormed.{IsNetlist}
 use Rattle.net_module.specs.Written.{written_module}
 use Rattle.net_text.specs.Small.{AreSmall}
-use Rattle.module_costs.specs.Counting.{HasPlainTables, HasOwnTables, CountsAs}
+use Rattle.module_costs.specs.Counting.{CountsAs}
 use Rattle.module_costs.proofs.Depths.{has_depth}
 use Rattle.module_costs.proofs.Sums.{counts_as}
 use Rattle.net_graph.specs.Depth.{IsShallow}
@@ -29,28 +25,6 @@ use Rattle.chain_build.specs.GroupCosts.{AreCostsOf, HasCosts}
 use Rattle.filter_text.specs.Headline.{AreCounted}
 use Rattle.filter_text.specs.Written.{TellCosts}
 use Rattle.filter_text.proofs.DepthText.{same_depth}
-
--- ---- no table
-
-total_at : (count : Cell → ℕ) (cells : List Cell) (place : ℕ) (cell : Cell) → slice_get cells place ≡ Some cell → count cell ≤ total count cells
-total_at count [] place cell at = absurd (omega (arith, slice_get_within {A = Cell} [] place cell at))
-total_at count (x ∷ cells) zero cell at = let is : x ≡ cell = cc in let e = ap count is in omega (arith, e)
-total_at count (x ∷ cells) (suc place) cell at = omega (arith, total_at count cells place cell at)
-
--- where no group has a table, no node is named as one
-never_table : (cells : List Cell) → ((group : ℕ) → tables_in group cells ≡ 0) → (place : ℕ) (cell : Cell) (name : Name) → slice_get cells place ≡ Some cell → cell.name ≡ Some name → is_table name.kind ≡ true → ⊥
-never_table cells none place cell name at named is =
-    let one : table name.group cell ≡ 1 = ap (λ (o : Option Name). one_if (has_kind is_table name.group o)) named ∙ (rw (eq-eqb name.group name.group refl, is) refl) in
-    omega (arith, one, none name.group, total_at (table name.group) cells place cell at)
-
-plain_tables : (cells : List Cell) → ((group : ℕ) → tables_in group cells ≡ 0) → HasPlainTables cells
-plain_tables cells none = record {
-  no_adder = λ place cell name at named is. absurd (never_table cells none place cell name at named is);
-  no_input = λ place cell name at named is. absurd (never_table cells none place cell name at named is);
-}
-
-pub own_tables : (cells : List Cell) → ((group : ℕ) → tables_in group cells ≡ 0) → HasOwnTables cells
-own_tables cells none = record { own = λ place cell name at named is. absurd (never_table cells none place cell name at named is) }
 
 -- ---- places change no count
 
@@ -144,9 +118,9 @@ module _ (cells : List Cell) (counts : CountsAs cells) where
 
 pub chain_counted : (es : List Element) (costs : List GroupCost) (cells : List Cell) → length es ≤ 32 → IsNetlist cells → AreSmall cells → HasCosts (groups es) costs cells → (d : Design) → IsSameButPlaces d (written_module cells) → AreCounted 1 (groups es) d
 chain_counted es costs cells few netlist small has d same =
-    are_counted cells (counts_as cells netlist small (plain_tables cells has.no_tables.none)) (has_depth cells netlist small (own_tables cells has.no_tables.none)) d same 1 (groups es) costs (omega arith) (let g = few_groups es in omega (arith, g, few)) has.costs_are
+    are_counted cells (counts_as cells netlist small has.tables.plain) (has_depth cells netlist small has.tables.own) d same 1 (groups es) costs (omega arith) (let g = few_groups es in omega (arith, g, few)) has.costs_are
 
 -- what is told of the groups is what the module that is written costs
 pub chain_costs : (es : List Element) (costs : List GroupCost) (cells : List Cell) → length es ≤ 32 → IsNetlist cells → AreSmall cells → HasCosts (groups es) costs cells → TellCosts 1 (groups es) costs (written_module cells)
 chain_costs es costs cells few netlist small has =
-    tell_costs cells (counts_as cells netlist small (plain_tables cells has.no_tables.none)) 1 (groups es) costs (omega arith) (let g = few_groups es in omega (arith, g, few)) has.costs_are
+    tell_costs cells (counts_as cells netlist small has.tables.plain) 1 (groups es) costs (omega arith) (let g = few_groups es in omega (arith, g, few)) has.costs_are

@@ -15,7 +15,7 @@ use Rattle.width_extreme.specs.Prefix.{IsStream}
 use Rattle.chain_build.specs.Built.{ArePlainGroups, has_rounding}
 use Rattle.chain_build.specs.Linear.{each_index, output_range, prefix_range}
 use Rattle.chain_build.proofs.ExactPrefixes.{prefix-tells, unrounded-linear}
-use Rattle.chain_build.proofs.GroupFacts.{filter-one}
+use Rattle.chain_build.proofs.FormFacts.{filter-one}
 use Rattle.chain_build.proofs.Roundings.{plain-unrounded}
 use Rattle.filter_text.specs.Headline.{IsLeastOutput}
 

@@ -66,12 +66,12 @@ module _ (w : ℕ) (elements : List Element) where
   of_stage group stream (x ∷ rs) (suc i) r at = of_stage group stream rs i r at
 
   of_group : (number taken : ℕ) (s : Stream) (g : Group) (gs : List Group) → ((j : ℕ) (r : LinearRegister) → slice_get (linear_from w elements (number + 1) (taken + size_of g) (after g s) gs) j ≡ Some r → IsSized r)
-      → (i : ℕ) (r : LinearRegister) → slice_get (map (register_of w number (record { elements = take taken elements; period = s.period; offset = s.offset })) (group_registers g s.period) ++ linear_from w elements (number + 1) (taken + size_of g) (after g s) gs) i ≡ Some r → IsSized r
+      → (i : ℕ) (r : LinearRegister) → slice_get (map (register_of w number (record { elements = take taken elements; period = s.period; offset = s.offset })) (group_registers g s) ++ linear_from w elements (number + 1) (taken + size_of g) (after g s) gs) i ≡ Some r → IsSized r
   of_group number taken s g gs rest i r at =
-      by (parted (map (register_of w number (record { elements = take taken elements; period = s.period; offset = s.offset })) (group_registers g s.period)) (linear_from w elements (number + 1) (taken + size_of g) (after g s) gs) i r at)
+      by (parted (map (register_of w number (record { elements = take taken elements; period = s.period; offset = s.offset })) (group_registers g s)) (linear_from w elements (number + 1) (taken + size_of g) (after g s) gs) i r at)
     where
-      by : (slice_get (map (register_of w number (record { elements = take taken elements; period = s.period; offset = s.offset })) (group_registers g s.period)) i ≡ Some r) ⊎ ((j : ℕ) × (slice_get (linear_from w elements (number + 1) (taken + size_of g) (after g s) gs) j ≡ Some r)) → IsSized r
-      by (inl own) = of_stage number (record { elements = take taken elements; period = s.period; offset = s.offset }) (group_registers g s.period) i r own
+      by : (slice_get (map (register_of w number (record { elements = take taken elements; period = s.period; offset = s.offset })) (group_registers g s)) i ≡ Some r) ⊎ ((j : ℕ) × (slice_get (linear_from w elements (number + 1) (taken + size_of g) (after g s) gs) j ≡ Some r)) → IsSized r
+      by (inl own) = of_stage number (record { elements = take taken elements; period = s.period; offset = s.offset }) (group_registers g s) i r own
       by (inr (j, later)) = rest j r later
 
   of_groups : (number taken : ℕ) (s : Stream) (gs : List Group) (i : ℕ) (r : LinearRegister) → slice_get (linear_from w elements number taken s gs) i ≡ Some r → IsSized r

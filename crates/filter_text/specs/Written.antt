@@ -8,10 +8,8 @@ use Rattle.verilog_tree.specs.Names.{shapes_of}
 use Rattle.verilog_tree.specs.Shown.{ports_of}
 use Rattle.verilog_tree.specs.Tree.{Design}
 use Rattle.verilog_tree.specs.View.{design_view}
-use Rattle.verilog_text.specs.Grammar.{limits}
 use Rattle.verilog_text.specs.Order.{IsInOrder, IsSameButPlaces}
 use Rattle.verilog_text.specs.Reading.{Reads}
-use Rattle.verilog_text.specs.Shortest.{IsWritable}
 use Rattle.chain_build.specs.Built.{kind_of}
 use Rattle.chain_build.specs.declared.groups.GroupCost.{GroupCost}
 use Rattle.filter_text.specs.Extremes.{told_at, TellsExtremes}
@@ -42,7 +40,6 @@ TellCosts number (g ∷ gs) (c ∷ costs) d = (c.kind ≡ kind_of g) × TellsCos
 -- costs of its groups, and this is told of its registers
 pub record IsChainModule (elements : List Element) (width ticks latency period : ℕ) (chain : ChainModule) : Type 0 where
   pub is_module : (d : Design) → IsSameButPlaces d (design_view chain.design) → IsModuleOf elements width ticks latency period d
-  pub writable : IsWritable limits (design_view chain.design)
   pub in_order : IsInOrder (design_view chain.design)
   pub output : (d : Design) → IsSameButPlaces d (design_view chain.design) → chain.output ≡ (shapes_of d).width (ports_of d).out_data
   pub costs : TellCosts 1 (groups elements) chain.costs.items (design_view chain.design)

@@ -37,3 +37,8 @@ with_term-behind negated b w t h =
     let p = power_of negated t in
     let at : t.index ≡ b + i = omega arith in
     ap (λ (k : ℕ). set form k (get_or form k (pos 0) +ℤ p)) at ∙ ap (λ (z : ℤ). set form (b + i) (z +ℤ p)) (get_or_behind b w i) ∙ set_behind b w i (get_or w i (pos 0) +ℤ p)
+
+-- terms of which none stands before the last place have no first place either
+pub nothing_behind : (ts : List Term) (b : ℕ) → All (λ (t : Term). b ≤ t.index) ts → reach_of ts ≡ b → b ≡ 0
+nothing_behind [] b h e = omega (arith, e)
+nothing_behind (t ∷ ts) b h e = let first : b ≤ t.index = h 0 t (omega arith) in omega (arith, first, e)

@@ -178,14 +178,14 @@ IsCombined-sub {old} {new} {to} {width} window i j a b data_group wide inside_a 
 
 pub TakesNext-taken : {old new : NetView} {from to : Node} {kind : NameKind} {group number : ℕ} → IsDataKind kind → group ≡ old.group → IsLeastFree old.cells group kind number → IsTaken old new (record { node = from; period = 1; offset = 0 }) (name_of group kind number) to → TakesNext old new kind from to
 TakesNext-taken {old} {new} {from} {to} {kind} {group} {number} of_data same least t = record {
-  grows = t.grows;
+  grows = t.grows same;
   adders = t.adders;
   named_same = SameNamed-taken (no_window kind of_data) (no_table kind of_data) t;
   named = λ count c. subst (λ (n : Name). IsRegister new.cells to.place old.group n (cell_at old.cells from.place).width) (name_is count c) t.register;
   counted = λ count c.
       let leaves : LeavesFree old.cells new.cells (λ name. name ≡ name_of old.group kind count) = subst (λ (m : Name). LeavesFree old.cells new.cells (λ name. name ≡ m)) (name_is count c) t.names in
       let used : IsFree new.cells (name_of old.group kind count) → ⊥ = subst (λ (m : Name). IsFree new.cells m → ⊥) (name_is count c) (λ f. f.none to.place t.register.cell t.register.there t.register.named) in
-      IsCounted-more old.group kind count t.grows.extends leaves used c;
+      IsCounted-more old.group kind count t.lengthens.extends leaves used c;
   names = LeavesFree-trans old.cells old.cells new.cells (λ name. ⊥) (λ name. name ≡ name_of group kind number) (IsTouched old.group kind) (λ name no. absurd no)
       (λ name h. inl (ap (λ (n : Name). n.group) h ∙ same, ap (λ (n : Name). n.kind) h)) (LeavesFree-refl old.cells (λ name. ⊥)) t.names;
   linear = t.linear;

@@ -95,5 +95,6 @@ pub(crate) fn sum_of(alloc: Global, negated: bool, terms: &[Term]) -> Result<Wei
     for term in terms {
         add_term(&mut weights, moved(*term, behind), negated);
     }
-    Ok(WeightedSum { behind, weights })
+    let sum = WeightedSum::of(alloc, behind, weights.as_slice())?;
+    Ok(sum)
 }

@@ -28,6 +28,3 @@ pub fn law_of_extents()
     ensures reach { (es : List Element) → AreLinear es → IsExtent (responses es) (extent es) }
     ensures gain { (es : List Element) → AreLinear es → HasGain (responses es) (gain_after_all es 1) }
 {}
-
-#[cfg(test)]
-mod tests;

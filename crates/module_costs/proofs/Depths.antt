@@ -32,7 +32,7 @@ use Rattle.net_module.proofs.Loops.{number_past}
 use Rattle.std.proofs.lemmas.Option.{slice_get_within}
 use Rattle.net_text.specs.Small.{AreSmall}
 use Rattle.net_text.proofs.Names.{kind_shape, shape_for, text_shape, small_shape}
-use Rattle.module_costs.specs.Counting.{HasOwnTables}
+use Rattle.net_graph.specs.Tables.{HasOwnTables}
 use Rattle.module_costs.proofs.Prefixes.{is_shape_in, shape_in_group}
 use Rattle.module_costs.proofs.Sums.{nameless_in}
 use Rattle.module_costs.proofs.Written.{past_ports, register_from, block_from}

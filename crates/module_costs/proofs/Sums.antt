@@ -25,7 +25,8 @@ use Rattle.net_module.proofs.NodeTexts.{node_text_of}
 use Rattle.net_text.specs.Small.{AreSmall}
 use Rattle.net_text.proofs.Names.{nameless_shape, kind_shape, shape_for, text_shape, small_shape, IsTail, tail_here, tail_more, tail_all}
 use Rattle.net_text.proofs.Spelled.{CtlNode, InGroup, shape_text}
-use Rattle.module_costs.specs.Counting.{HasPlainTables, CountsAs}
+use Rattle.net_graph.specs.Tables.{HasPlainTables}
+use Rattle.module_costs.specs.Counting.{CountsAs}
 use Rattle.module_costs.proofs.Prefixes.{is_shape_in, shape_in_group, is_lettered, shape_numbered}
 
 false_true : false ≡ true → ⊥

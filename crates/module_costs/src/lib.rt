@@ -4,11 +4,12 @@
 ghost use Rattle.std.specs.Prelude.{ℕ, ◌<◌, ◌≤◌, ◌^◌, List};
 ghost use Rattle.net_graph.specs.declared.cell.Cell.{Cell};
 ghost use Rattle.net_graph.specs.Depth.{IsShallow};
+ghost use Rattle.net_graph.specs.Tables.{HasPlainTables, HasOwnTables};
 ghost use Rattle.net_graph.specs.WellFormed.{IsNetlist};
 ghost use Rattle.net_module.specs.Written.{written_module};
 ghost use Rattle.net_text.specs.Small.{AreSmall};
 ghost use Rattle.verilog_tree.specs.Counted.{HasDepth};
-ghost use Rattle.module_costs.specs.Counting.{HasPlainTables, HasOwnTables, CountsAs};
+ghost use Rattle.module_costs.specs.Counting.{CountsAs};
 
 /// At most one adder of a group stands between two registers of the written module, where that is so in the net and each table is of the
 /// group of its name.

@@ -45,7 +45,7 @@ some_among test (s ∷ ss) is = by (test s) refl is (some_among test ss)
     by false e is rest = let r = rest is in (r.0, inr r.1, r.2)
 
 -- where no name is declared twice, a declaration is the first of its name
-declared_once : (ss : List Signal) → AllApart ss → (s : Signal) → Among s ss → declaration_in ss s.name ≡ Some s
+pub declared_once : (ss : List Signal) → AllApart ss → (s : Signal) → Among s ss → declaration_in ss s.name ≡ Some s
 declared_once [] apart s among = absurd among
 declared_once (t ∷ ts) apart s (inl is) =
     ap (λ (b : Bool). cond b (Some t) (declaration_in ts s.name)) (eq-eqb t.name s.name (sym (ap (λ (x : Signal). x.name) is))) ∙ ap Some (sym is)

@@ -23,7 +23,7 @@ use Rattle.net_module.proofs.Lists.{assignment_of, assign_from}
 use Rattle.net_module.proofs.NodeTexts.{node_text_of}
 use Rattle.net_text.specs.Small.{AreSmall}
 use Rattle.net_text.proofs.Names.{kind_shape, shape_for, text_shape, small_shape}
-use Rattle.module_costs.specs.Counting.{HasOwnTables}
+use Rattle.net_graph.specs.Tables.{HasOwnTables}
 use Rattle.module_costs.proofs.Prefixes.{is_shape_in, shape_in_group}
 use Rattle.module_costs.proofs.Sums.{nameless_in}
 use Rattle.module_costs.proofs.Written.{block_from}

@@ -7,7 +7,7 @@ ghost use Rattle.net_graph.specs.WellFormed.{IsNetlist};
 ghost use Rattle.net_module.specs.Written.{written_module};
 ghost use Rattle.net_text.specs.Small.{AreSmall};
 ghost use Rattle.pipeline_balance.specs.Shapes.{HasLinearItems};
-ghost use Rattle.module_costs.specs.Counting.{HasOwnTables};
+ghost use Rattle.net_graph.specs.Tables.{HasOwnTables};
 ghost use Rattle.verilog_text.specs.Order.{IsSameButPlaces};
 ghost use Rattle.verilog_tree.specs.Tree.{Design};
 ghost use Rattle.module_shapes.specs.Shapes.{HasLinearShapes};

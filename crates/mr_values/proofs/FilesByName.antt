@@ -1,5 +1,6 @@
 -- A list of files with distinct names is a map from names to bytes.
 use Rattle.std.proofs.Common.{◌≡◌, ℕ, zero, suc, ◌+◌, ◌<◌, Bool, true, false, not, cond, IsTrue, List, [], ◌∷◌, ◌++◌, map, length, Option, Some, None, is_some, IsSome, slice_set, get_or, drop, Ordering, Less, Equal, Greater, refl, sym, ◌∙◌, ap, subst, arith, inl, inr}
+use Rattle.std.specs.Prelude.{vec_capacity}
 use Rattle.std.proofs.lemmas.Bool.{cases_Bool, and_parts, or_parts, not-true, false≢true}
 use Rattle.std.proofs.lemmas.List.{map-append, at_drop_more}
 use Rattle.std.proofs.lemmas.Option.{slice_get-map, slice_get_read}
@@ -13,7 +14,7 @@ use Rattle.std.specs.Cmp.Lexicographic.{slice_cmp, nat_list_cmp_total}
 use Rattle.std.specs.FinMap.{find, get, insert, get-insert, get-from_entries, same_map, from_entries_push, slice_cmp-IsAntisymmetric, nat_cmp-IsAntisymmetric, IsAntisymmetric}
 use Rattle.mr_values.specs.Files.{bytes_of}
 use Rattle.mr_values.specs.declared.named_file.NamedFile.{NamedFile}
-use Rattle.mr_values.specs.NamedFiles.{name_of, entry_of, names_of, files_of, same_name, are_distinct, name_in, name_at, bytes_at}
+use Rattle.mr_values.specs.NamedFiles.{name_of, entry_of, names_of, files_of, same_name, are_distinct, name_in, name_at, bytes_at, capacity_at}
 
 names_antisymmetric : IsAntisymmetric (slice_cmp nat_cmp)
 names_antisymmetric = slice_cmp-IsAntisymmetric nat_cmp-IsAntisymmetric
@@ -58,7 +59,7 @@ list_any-names file (f ∷ files) =
       | inr other ↦ rw other (list_any-names file files)
     ]
 
-same_name-equal : (x y : List ℕ) → same_name x y ≡ true → x ≡ y
+pub same_name-equal : (x y : List ℕ) → same_name x y ≡ true → x ≡ y
 same_name-equal x y h = names_antisymmetric x y (equal_of (slice_cmp nat_cmp x y) h)
 
 -- a name of the list is found
@@ -141,6 +142,9 @@ name_at-is files at file h is = rw (slice_get-map name_of files at, slice_get_re
 pub bytes_at-is : (files : List NamedFile) (at : ℕ) (file : NamedFile) → at < length files → file ≡ get_or files at file → bytes_at files at ≡ file.bytes.items
 bytes_at-is files at file h is = rw (slice_get-map (λ f. f.bytes.items) files at, slice_get_read files (length files) at file refl h is)
 
+pub capacity_at-is : (files : List NamedFile) (at : ℕ) (file : NamedFile) → at < length files → file ≡ get_or files at file → capacity_at files at ≡ vec_capacity file.bytes
+capacity_at-is files at file h is = rw (slice_get-map (λ f. vec_capacity f.bytes) files at, slice_get_read files (length files) at file refl h is)
+
 -- the name that stands last, and those before it
 pub name_in-last : (names : List (List ℕ)) (name : List ℕ) → name_in (names ++ name ∷ []) (length names) ≡ name
 name_in-last [] name = refl
@@ -171,6 +175,10 @@ bytes_eq-equal x y h = same_name-equal x y (is_eq-slice_cmp x y ∙ h)
 pub distinct-set : (files : List NamedFile) (at : ℕ) (file new : NamedFile) → at < length files → file ≡ get_or files at file → name_of new ≡ name_of file → IsTrue (are_distinct (names_of files)) → IsTrue (are_distinct (names_of (slice_set files at new)))
 distinct-set files at file new h is same d = rw (names_of-set files at new (same ∙ sym (name_at-is files at file h is))) d
 
+-- a file that keeps its name
+pub sets_name : (files : List NamedFile) (at : ℕ) (file new : NamedFile) → at < length files → file ≡ get_or files at file → name_of new ≡ name_of file → names_of (slice_set files at new) ≡ names_of files
+sets_name files at file new h is same = names_of-set files at new (same ∙ sym (name_at-is files at file h is))
+
 -- What a file with other bytes makes of the list.
 pub record SetsBytes (old new : List NamedFile) (at : ℕ) (bytes : List ℕ) : Type 0 where
   pub distinct : IsTrue (are_distinct (names_of new))
@@ -180,7 +188,7 @@ pub record SetsBytes (old new : List NamedFile) (at : ℕ) (bytes : List ℕ) : 
 pub sets_bytes : (files : List NamedFile) (at : ℕ) (file new : NamedFile) → at < length files → file ≡ get_or files at file → IsTrue (are_distinct (names_of files)) → name_of new ≡ name_of file → SetsBytes files (slice_set files at new) at new.bytes.items
 sets_bytes files at file new h is d same = record {
   distinct = distinct-set files at file new h is same d;
-  names = names_of-set files at new (same ∙ sym (name_at-is files at file h is));
+  names = sets_name files at file new h is same;
   files = files_of-set files at new h d (same ∙ sym (name_at-is files at file h is));
 }
 

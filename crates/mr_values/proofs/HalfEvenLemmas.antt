@@ -45,8 +45,8 @@ nearest_same q r d h = by (ltb (2 * r) d) (ltb d (2 * r)) refl refl
 
 -- by which the quotient is raised, by the remainder against the half
 pub record Raised (s : ℕ) (v : ℤ) (up : ℕ) : Type 0 where
-  is : half_even s v ≡ floor_quotient v (2 ^ s) +ℤ pos up
-  why : (floor_remainder v (2 ^ s) < 2 ^ (s - 1)) × (up ≡ 0) ⊎ ((2 ^ (s - 1) < floor_remainder v (2 ^ s)) × (up ≡ 1)) ⊎ ((floor_remainder v (2 ^ s) ≡ 2 ^ (s - 1)) × (up ≡ floor_remainder (floor_quotient v (2 ^ s)) 2))
+  pub is : half_even s v ≡ floor_quotient v (2 ^ s) +ℤ pos up
+  pub why : (floor_remainder v (2 ^ s) < 2 ^ (s - 1)) × (up ≡ 0) ⊎ ((2 ^ (s - 1) < floor_remainder v (2 ^ s)) × (up ≡ 1)) ⊎ ((floor_remainder v (2 ^ s) ≡ 2 ^ (s - 1)) × (up ≡ floor_remainder (floor_quotient v (2 ^ s)) 2))
 
 pub raised : (s : ℕ) (v : ℤ) → 1 ≤ s → (up : ℕ) × Raised s v up
 raised s v h =

@@ -16,4 +16,5 @@ pub mod DigitRows
 pub mod PhaseSums
 pub mod TimingRows
 pub mod FilesByName
+pub mod FilesRead
 pub mod HostSteps

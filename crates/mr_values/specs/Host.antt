@@ -6,7 +6,7 @@ use Rattle.mr_values.specs.declared.host.FaultCounts.{FaultCounts}
 use Rattle.mr_values.specs.declared.host.OutFail.{OutFail}
 use Rattle.mr_values.specs.declared.host.OutFail.TheVariants.{Failed, Memory}
 use Rattle.mr_values.specs.declared.host.Failed.{Failed as FailedCall}
-use Rattle.mr_values.specs.Faults.{IsRisen, RaisesOnly}
+use Rattle.mr_values.specs.Faults.{IsRisen, RaisesOnly, IsRaisedAt}
 use Rattle.mr_values.specs.Files.{Files, bytes_of}
 
 pub record HostState : Type 0 where
@@ -16,12 +16,13 @@ pub record HostState : Type 0 where
   pub has_output : Bool
   pub faults : FaultCounts
   -- what follows counts only where the host tells its files: how often it was struck by a fault,
-  -- the files, the input and the place in it, and the output
+  -- the files, the input and the place in it, the output, and how often each input was read to its end
   pub struck : ℕ
   pub files : Files
   pub input : List ℕ
   pub place : ℕ
   pub output : List ℕ
+  pub ends : List ℕ → ℕ
 
 -- the bytes of the input that are still to be read
 abbrev pub left_of : HostState → List ℕ
@@ -51,6 +52,17 @@ pub record OpensInput (name : List ℕ) (result : Result (Unit {0}) FailedCall) 
   pub refused : OnErr result (IsRisen old.struck new.struck ⊎ ((get old.files name ≡ None) × (old.struck ≤ new.struck)))
   pub files : new.files ≡ old.files
   pub output : new.output ≡ old.output
+  pub ends : new.ends ≡ old.ends
+
+-- an input is read to its end where a room that isn't empty got no bytes
+abbrev pub IsEnd : Result ℕ FailedCall → List ℕ → Type 0
+IsEnd (Ok count) room = (count ≡ 0) × (0 < length room)
+IsEnd (Err failed) room = ⊥
+
+-- an input that is read to its end is counted, and nothing else is
+pub record CountsEnd (is_end : Type 0) (old new : HostState) : Type 0 where
+  pub raised : is_end → IsRaisedAt old.input old.ends new.ends
+  pub unmoved : ¬ is_end → new.ends ≡ old.ends
 
 pub record Reads (room : List ℕ) (result : Result ℕ FailedCall) (old new : HostState) : Type 0 where
   pub bytes : IfOk result (λ count. left_of old ≡ take count room ++ left_of new)
@@ -60,6 +72,7 @@ pub record Reads (room : List ℕ) (result : Result ℕ FailedCall) (old new : H
   pub input : OnOk result (new.input ≡ old.input)
   pub files : new.files ≡ old.files
   pub output : new.output ≡ old.output
+  pub ends : CountsEnd (IsEnd result room) old new
 
 pub record OpensOutput (name : List ℕ) (result : Result (Unit {0}) OutFail) (old new : HostState) : Type 0 where
   pub opened : OnOk result ((new.files ≡ insert old.files name []) × (new.output ≡ name))
@@ -67,6 +80,7 @@ pub record OpensOutput (name : List ℕ) (result : Result (Unit {0}) OutFail) (o
   pub struck : IsStruck (has_failed result) old new
   pub input : new.input ≡ old.input
   pub place : new.place ≡ old.place
+  pub ends : new.ends ≡ old.ends
 
 -- the output has grown by these bytes, and no other file has changed
 abbrev pub GrowsBy : List ℕ → HostState → HostState → Type 0
@@ -78,3 +92,4 @@ pub record Appends (piece : List ℕ) (result : Result (Unit {0}) OutFail) (old 
   pub struck : IsStruck (has_failed result) old new
   pub input : new.input ≡ old.input
   pub place : new.place ≡ old.place
+  pub ends : new.ends ≡ old.ends

@@ -7,6 +7,7 @@ pub mod Digit
 pub mod Timing
 pub mod Faults
 pub mod Files
+pub mod CallNames
 pub mod Host
 pub mod NamedFiles
 pub mod MemoryHost

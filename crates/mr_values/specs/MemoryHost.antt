@@ -1,10 +1,10 @@
 -- What a host in memory is: a host that tells its files, and whose calls fail where it was told so.
-use Rattle.std.specs.Prelude.{◌≡◌, ℕ, ◌+◌, ◌-◌, ◌^◌, min, true, false, [], ◌∷◌, ◌++◌, List, Contains, is_some}
+use Rattle.std.specs.Prelude.{◌≡◌, ℕ, ◌+◌, ◌-◌, ◌^◌, ◌<◌, min, length, true, false, [], ◌∷◌, ◌++◌, List, Contains, is_some}
 use Rattle.std.specs.Option.{option_map_or}
 use Rattle.std.specs.FinMap.{insert, empty}
 use Rattle.mr_values.specs.declared.memory_host.MemoryHost.{MemoryHost}
 use Rattle.mr_values.specs.Host.{HostState}
-use Rattle.mr_values.specs.NamedFiles.{files_of, name_at}
+use Rattle.mr_values.specs.NamedFiles.{files_of, name_at, bytes_at, capacity_at, ends_in}
 
 abbrev pub host_state : MemoryHost → HostState
 host_state host = record {
@@ -17,6 +17,7 @@ host_state host = record {
   input = option_map_or (λ reading. name_at host.files.items reading.file) host.input [];
   place = option_map_or (λ reading. reading.place) host.input 0;
   output = option_map_or (λ at. name_at host.files.items at) host.output [];
+  ends = ends_in host.files.items;
 }
 
 -- a host in memory: as a host, the numbers of the calls that are to fail, how many calls there were,
@@ -48,6 +49,7 @@ fresh = record {
     input = [];
     place = 0;
     output = [];
+    ends = λ name. 0;
   };
   failing = [];
   calls = 0;
@@ -74,3 +76,7 @@ pub record TakesTurn (old new : MemoryState) : Type 0 where
   pub failing : new.failing ≡ old.failing
   pub calls : new.calls ≡ min (old.calls + 1) (2 ^ 64 - 1)
   pub piece : new.piece ≡ old.piece
+
+-- the memory that holds the output has no room for so many more bytes
+abbrev pub LacksRoom : ℕ → MemoryHost → Type 0
+LacksRoom more host = option_map_or (λ at. capacity_at host.files.items at) host.output 0 < option_map_or (λ at. length (bytes_at host.files.items at)) host.output 0 + more

@@ -1,5 +1,5 @@
 -- A list of files, as files by their names.
-use Rattle.std.specs.Prelude.{ℕ, Bool, true, not, ◌&&◌, List, [], ◌∷◌, map, string_bytes, slice_get, unwrap_or}
+use Rattle.std.specs.Prelude.{ℕ, ◌+◌, Bool, true, false, not, ◌&&◌, List, [], ◌∷◌, map, string_bytes, vec_capacity, slice_get, unwrap_or}
 use Rattle.std.specs.List.{list_any}
 use Rattle.std.specs.Ordering.{nat_cmp, eq_by_cmp}
 use Rattle.std.specs.Cmp.Lexicographic.{slice_cmp}
@@ -37,3 +37,17 @@ name_at files at = name_in (names_of files) at
 
 abbrev pub bytes_at : List NamedFile → ℕ → List ℕ
 bytes_at files at = unwrap_or (slice_get (map (λ file. file.bytes.items) files) at) []
+
+-- how many bytes the memory of the file at a place has room for
+abbrev pub capacity_at : List NamedFile → ℕ → ℕ
+capacity_at files at = unwrap_or (slice_get (map (λ file. vec_capacity file.bytes) files) at) 0
+
+-- a count, where it is wanted
+abbrev pub count_where : Bool → ℕ → ℕ
+count_where true count = count
+count_where false count = 0
+
+-- how often the file of this name, which stands at most once, was read to its end
+abbrev pub ends_in : List NamedFile → List ℕ → ℕ
+ends_in [] name = 0
+ends_in (file ∷ files) name = count_where (same_name name (name_of file)) file.ends + ends_in files name

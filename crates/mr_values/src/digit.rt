@@ -101,30 +101,3 @@ pub fn count_positive_terms(taps: &[i64], up: u32, phase: u32) -> u64
     }
     count
 }
-
-#[cfg(test)]
-mod tests {
-    use super::*;
-    use std::test::Fail;
-
-    #[test]
-    fn weights_of_one_to_sixteen(rt: HostRuntime) -> Result<(), Fail> {
-        let weights = [1, 1, 2, 1, 2, 2, 2, 1, 2, 2, 3, 2, 3, 2, 2, 1];
-        for (place, wanted) in weights.iter().enumerate() {
-            assert_eq!(rt; weight(place as i64 + 1), *wanted);
-        }
-        Ok(())
-    }
-
-    #[test]
-    fn weights_at_the_ends(rt: HostRuntime) -> Result<(), Fail> {
-        assert_eq!(rt; weight(0), 0);
-        assert_eq!(rt; weight(-1), 1);
-        assert_eq!(rt; weight(23), 3);
-        assert_eq!(rt; weight(1 << 62), 1);
-        assert_eq!(rt; weight(i64::MAX), 2);
-        assert_eq!(rt; weight(i64::MIN), 1);
-        assert_eq!(rt; weight(0x5555_5555_5555_5555), 32);
-        Ok(())
-    }
-}

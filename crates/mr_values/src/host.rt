@@ -3,6 +3,8 @@ ghost use Rattle.std.specs.Prelude.{◌≡◌, ◌≤◌, length, true, false, i
 ghost use Rattle.mr_values.specs.Faults.{RaisesOnly};
 ghost use Rattle.mr_values.specs.Host.{HostState, HasCause, OpensInput, Reads, OpensOutput, Appends, has_failed};
 
+use std::fmt;
+
 /// A call of the host failed.
 #[derive(Clone, Copy, Debug, PartialEq, Eq)]
 pub struct Failed;
@@ -19,6 +21,22 @@ pub enum HostCall {
     Next,
     OpenOutput,
     Put,
+}
+
+impl fmt::Display for HostCall {
+    ghost use Rattle.std.specs.Prelude.{Some};
+    ghost use Rattle.mr_values.specs.CallNames.{call_text};
+
+    ghost output = { λ call. Some (call_text call) };
+
+    fn fmt<W: fmt::Write>(&self, f: &mut fmt::Formatter<W>) -> fmt::Result {
+        match self {
+            HostCall::OpenInput => write!(f, "OpenInput"),
+            HostCall::Next => write!(f, "Next"),
+            HostCall::OpenOutput => write!(f, "OpenOutput"),
+            HostCall::Put => write!(f, "Put"),
+        }
+    }
 }
 
 /// How often each call of a host has failed.

@@ -15,7 +15,8 @@ use Rattle.net_graph.specs.Cells.{NetView, cell_at}
 use Rattle.net_graph.specs.Name.{is_control, is_control_name, is_input}
 use Rattle.net_graph.specs.WellFormed.{IsBound}
 use Rattle.net_graph.specs.Control.{IsOfControl, ReadsControl, IsControlClosed}
-use Rattle.net_graph.specs.Grow.{Extends, IsKept, Adds, AddsRegister, IsUnbound, IsBoundTo, IsNamedAs, IsAdded, Grows, bound_to, named_as}
+use Rattle.net_graph.specs.declared.name.NameKind.TheVariants.{Control}
+use Rattle.net_graph.specs.Grow.{Extends, IsKept, Adds, AddsRegister, IsUnbound, IsBoundTo, IsNamedAs, IsAdded, IsNamedIn, HasOwnName, HaveOwnNames, KeepsCells, Lengthens, Grows, bound_to, named_as}
 
 -- ---- control nodes read control nodes in a longer net too
 
@@ -35,6 +36,62 @@ ReadsControl-later old new (Some (Equal a b)) e r = (IsOfControl-later old new a
 ReadsControl-later old new (Some (Bits a high low)) e r = IsOfControl-later old new a.place e r
 ReadsControl-later old new (Some (Register next)) e r = IsOfControl-later old new next.place e r
 
+-- ---- cells that stay, and names
+
+pub KeepsCells-refl : (cells : List Cell) → KeepsCells cells cells
+KeepsCells-refl cells = record { each = λ place cell there. there }
+
+pub KeepsCells-trans : (a b c : List Cell) → KeepsCells a b → KeepsCells b c → KeepsCells a c
+KeepsCells-trans a b c p q = record { each = λ place cell there. q.each place cell (p.each place cell there) }
+
+pushed_kept : (old new more : List Cell) → new ≡ old ++ more → KeepsCells old new
+pushed_kept old new more is = record { each = λ place cell there. subst (λ (m : List Cell). slice_get m place ≡ Some cell) (sym is) (slice_get-append_left old more place cell there) }
+
+-- a node without a name
+nameless_own : (cell : Cell) → cell.name ≡ None → HasOwnName cell
+nameless_own cell nameless = record { named = λ name is. absurd (cc) }
+
+-- a name of this group, which is not that of control
+pub named_own : (cell : Cell) (name : Name) → cell.name ≡ Some name → name.group ≡ cell.group → 1 ≤ cell.group → HasOwnName cell
+named_own cell name has own some = record {
+  named = λ other is.
+      let same : name ≡ other = cc in
+      record { own = ap (λ (n : Name). n.group) (sym same) ∙ own; control = λ none. absurd (omega arith) };
+}
+
+-- a name of control in group 0
+pub named_control : (cell : Cell) (name : Name) → cell.name ≡ Some name → name.group ≡ cell.group → name.kind ≡ Control → HasOwnName cell
+named_control cell name has own control = record {
+  named = λ other is.
+      let same : name ≡ other = cc in
+      record { own = ap (λ (n : Name). n.group) (sym same) ∙ own; control = λ none. ap (λ (n : Name). n.kind) (sym same) ∙ control };
+}
+
+own_bound : (own : Cell) (next : Node) → HasOwnName own → HasOwnName (bound_to own next)
+own_bound own next h = record { named = λ name is. h.named name is }
+
+-- the names of two steps
+named_both : (a b c : List Cell) → KeepsCells b c → HaveOwnNames (length a) b → HaveOwnNames (length b) c → HaveOwnNames (length a) c
+named_both a b c kept p q = record {
+  each = λ place cell after there. elim (cases_lt place (length b)) [
+    | inl less ↦
+        let was = cell_at b place in
+        let here = cell_at-there b place less in
+        let same : was ≡ cell = same_cell was cell (slice_get c place) (kept.each place was here) there in
+        subst (λ (x : Cell). HasOwnName x) same (p.each place was after here)
+    | inr more ↦ q.each place cell more there
+  ];
+}
+
+-- one more node with a name of its own
+pushed_named : (old new : List Cell) (own : Cell) → new ≡ old ++ own ∷ [] → HasOwnName own → HaveOwnNames (length old) new
+pushed_named old new own cells is = record {
+  each = λ place cell after there. elim (slice_get_push_cases old own place cell (subst (λ (m : List Cell). slice_get m place ≡ Some cell) cells there)) [
+    | inl before ↦ absurd (let within = slice_get_within old place cell before in omega arith)
+    | inr last ↦ subst (λ (x : Cell). HasOwnName x) (sym last.1) is
+  ];
+}
+
 -- ---- growth
 
 pub Grows-refl : (net : NetView) → Grows net net
@@ -44,7 +101,13 @@ Grows-refl net = record {
   bound = λ b. b;
   closed = λ c. c;
   added = λ place cell after there. absurd (let within = slice_get_within net.cells place cell there in omega arith);
+  kept = λ before. KeepsCells-refl net.cells;
+  named = λ before. record { each = λ place cell after there. absurd (let within = slice_get_within net.cells place cell there in omega arith) };
 }
+
+-- what a stage adds lengthens the net
+pub lengthened : {old new : NetView} → Grows old new → Lengthens old new
+lengthened g = record { extends = g.extends; group = g.group; bound = g.bound; closed = g.closed; added = g.added }
 
 -- what was added stays so in a longer net
 added_later : (group : ℕ) (new : List Cell) (place : ℕ) (was cell : Cell) → IsKept new place was → slice_get new place ≡ Some cell → IsAdded group was → IsAdded group cell
@@ -68,6 +131,15 @@ added_both a b c e same p q place cell after there = elim (cases_lt place (lengt
   | inr more ↦ subst (λ (g : ℕ). IsAdded g cell) same (q place cell more there)
 ]
 
+pub Lengthens-trans : {a b c : NetView} → Lengthens a b → Lengthens b c → Lengthens a c
+Lengthens-trans {a} {b} {c} p q = record {
+  extends = Extends-trans a.cells b.cells c.cells p.extends q.extends;
+  group = q.group ∙ p.group;
+  bound = λ before. q.bound (p.bound before);
+  closed = λ before. q.closed (p.closed before);
+  added = added_both a b c q.extends p.group p.added q.added;
+}
+
 pub Grows-trans : {a b c : NetView} → Grows a b → Grows b c → Grows a c
 Grows-trans {a} {b} {c} p q = record {
   extends = Extends-trans a.cells b.cells c.cells p.extends q.extends;
@@ -75,6 +147,23 @@ Grows-trans {a} {b} {c} p q = record {
   bound = λ before. q.bound (p.bound before);
   closed = λ before. q.closed (p.closed before);
   added = added_both a b c q.extends p.group p.added q.added;
+  kept = λ before. KeepsCells-trans a.cells b.cells c.cells (p.kept before) (q.kept (p.bound before));
+  named = λ before. named_both a.cells b.cells c.cells (q.kept (p.bound before)) (p.named before) (q.named (p.bound before));
+}
+
+-- nodes of control that were added to the net as one of group 0 are added to a net of any group
+added_anyhow : (group : ℕ) (cell : Cell) → IsAdded 0 cell → IsAdded group cell
+added_anyhow group cell a = record { of_group = elim a.of_group [ inl e ↦ inl e | inr e ↦ inl e ]; no_input = a.no_input }
+
+pub Grows-regroup : {old new : NetView} → (let alone : NetView = record { cells = old.cells; group = 0 } in Grows alone new) → (let back : NetView = record { cells = new.cells; group = old.group } in Grows old back)
+Grows-regroup {old} {new} g = record {
+  extends = g.extends;
+  group = refl;
+  bound = g.bound;
+  closed = g.closed;
+  added = λ place cell after there. added_anyhow old.group cell (g.added place cell after there);
+  kept = g.kept;
+  named = g.named;
 }
 
 -- ---- one more node
@@ -121,6 +210,8 @@ Grows-adds {old} {new} {node} {width} {item} a plain reads =
       bound = pushed_bound old.cells new.cells own a.cells refl;
       closed = pushed_closed old.cells new.cells own a.cells e (λ is. reads (nameless_control old.group (not (is_input (Some item))) is));
       added = pushed_added old new.cells own a.cells (record { of_group = inr refl; no_input = plain });
+      kept = λ before. pushed_kept old.cells new.cells (own ∷ []) a.cells;
+      named = λ before. pushed_named old.cells new.cells own a.cells (nameless_own own refl);
     }
 
 -- one more node of a group of data
@@ -140,6 +231,8 @@ pub record GrowsBut (old new : NetView) (register : Node) (own : Cell) : Type 0 
   pub bound : IsBound old.cells → IsBoundBut new.cells register.place
   pub closed : IsControlClosed old.cells → IsControlClosed new.cells
   pub added : (place : ℕ) (cell : Cell) → length old.cells ≤ place → slice_get new.cells place ≡ Some cell → IsAdded old.group cell
+  pub kept : IsBound old.cells → KeepsCells old.cells new.cells
+  pub named : IsBound old.cells → HasOwnName own → HaveOwnNames (length old.cells) new.cells
   pub there : slice_get new.cells register.place ≡ Some own
   pub nextless : own.item ≡ None
 
@@ -160,6 +253,8 @@ GrowsBut-register {old} {new} {register} {name} {width} a =
       };
       closed = pushed_closed old.cells new.cells own a.cells e (λ is. tt);
       added = pushed_added old new.cells own a.cells (record { of_group = inr refl; no_input = refl });
+      kept = λ before. pushed_kept old.cells new.cells (own ∷ []) a.cells;
+      named = λ before has. pushed_named old.cells new.cells own a.cells has;
       there = cell_of_register a;
       nextless = refl;
     }
@@ -181,6 +276,8 @@ GrowsBut-adds {old} {mid} {new} {register} {node} {own} {width} {item} p a plain
       };
       closed = λ before. q.closed (p.closed before);
       added = added_both old mid new q.extends p.group p.added q.added;
+      kept = λ before. KeepsCells-trans old.cells mid.cells new.cells (p.kept before) (pushed_kept mid.cells new.cells (more ∷ []) a.cells);
+      named = λ before has. named_both old.cells mid.cells new.cells (pushed_kept mid.cells new.cells (more ∷ []) a.cells) (p.named before has) (pushed_named mid.cells new.cells more a.cells (nameless_own more refl));
       there = subst (λ (m : List Cell). slice_get m register.place ≡ Some own) (sym a.cells) (slice_get-append_left mid.cells (more ∷ []) register.place own p.there);
       nextless = p.nextless;
     }
@@ -205,8 +302,8 @@ control_bound : (own : Cell) (next : Node) → own.item ≡ None → is_control 
 control_bound own next nextless is = ap (λ (i : Option Item). is_control_name own.name own.group && not (is_input i)) nextless ∙ is
 
 -- the register gets its next
-pub Grows-bind : {old mid new : NetView} {register next : Node} {own : Cell} → GrowsBut old mid register own → 1 ≤ own.width → IsBoundTo mid new register next → (is_control own ≡ true → IsOfControl mid.cells next.place) → Grows old new
-Grows-bind {old} {mid} {new} {register} {next} {own} p wide b reads =
+pub Lengthens-bind : {old mid new : NetView} {register next : Node} {own : Cell} → GrowsBut old mid register own → 1 ≤ own.width → IsBoundTo mid new register next → (is_control own ≡ true → IsOfControl mid.cells next.place) → Lengthens old new
+Lengthens-bind {old} {mid} {new} {register} {next} {own} p wide b reads =
     let place = register.place in
     let now = bound_to own next in
     let is_cells : new.cells ≡ set mid.cells place now = b.cells ∙ ap (λ (c : Cell). set mid.cells place (bound_to c next)) (cell_at-is mid.cells place own p.there) in
@@ -241,11 +338,44 @@ Grows-bind {old} {mid} {new} {register} {next} {own} p wide b reads =
           ]);
     }
 
+-- every node but the register is as it was before the register got its next
+other_kept : {old mid new : NetView} {register next : Node} {own : Cell} → GrowsBut old mid register own → IsBoundTo mid new register next → (k : ℕ) (cell : Cell) → (k ≡ register.place → ⊥) → slice_get mid.cells k ≡ slice_get new.cells k
+other_kept {old} {mid} {new} {register} {next} p b k cell other =
+    sym (slice_get-set_other mid.cells register.place k (bound_to (cell_at mid.cells register.place) next) other) ∙ ap (λ (m : List Cell). slice_get m k) (sym b.cells)
+
+-- no earlier register was without its next
+later_register : {old mid : NetView} {register : Node} {own : Cell} → GrowsBut old mid register own → IsBound old.cells → (k : ℕ) (cell : Cell) → slice_get old.cells k ≡ Some cell → k ≡ register.place → ⊥
+later_register {old} {mid} {register} {own} p before k cell there is =
+    let found : slice_get mid.cells register.place ≡ Some cell = subst (λ (n : ℕ). slice_get mid.cells n ≡ Some cell) is ((p.kept before).each k cell there) in
+    let same : own ≡ cell = same_cell own cell (slice_get mid.cells register.place) p.there found in
+    let none : IsSome {T = Item} None = subst (λ (i : Option Item). IsSome i) (ap (λ (c : Cell). c.item) (sym same) ∙ p.nextless) (before.each k cell there) in
+    absurd (cc)
+
+pub Grows-bind : {old mid new : NetView} {register next : Node} {own : Cell} → HasOwnName own → GrowsBut old mid register own → 1 ≤ own.width → IsBoundTo mid new register next → (is_control own ≡ true → IsOfControl mid.cells next.place) → Grows old new
+Grows-bind {old} {mid} {new} {register} {next} {own} has p wide b reads =
+    let l = Lengthens-bind p wide b reads in
+    record {
+      extends = l.extends;
+      group = l.group;
+      bound = l.bound;
+      closed = l.closed;
+      added = l.added;
+      kept = λ before. record { each = λ k cell there. sym (other_kept p b k cell (later_register p before k cell there)) ∙ (p.kept before).each k cell there };
+      named = λ before. record {
+        each = λ k cell after there. elim (cases_eq k register.place) [
+          | inl same ↦
+              let is : bound_to own next ≡ cell = same_cell (bound_to own next) cell (slice_get new.cells register.place) (cell_of_grown p b) (subst (λ (n : ℕ). slice_get new.cells n ≡ Some cell) same there) in
+              subst (λ (x : Cell). HasOwnName x) is (own_bound own next has)
+          | inr other ↦ (p.named before has).each k cell after (other_kept p b k cell other ∙ there)
+        ];
+      };
+    }
+
 -- ---- one name more
 
 -- a node gets a name under which it stays control or not
-pub Grows-named : {old new : NetView} {node : Node} {name : Name} → node.place < length old.cells → (cell_at old.cells node.place).name ≡ None → is_control (named_as (cell_at old.cells node.place) name) ≡ is_control (cell_at old.cells node.place) → IsNamedAs old new node name → Grows old new
-Grows-named {old} {new} {node} {name} inside nameless same n =
+pub Lengthens-named : {old new : NetView} {node : Node} {name : Name} → node.place < length old.cells → (cell_at old.cells node.place).name ≡ None → is_control (named_as (cell_at old.cells node.place) name) ≡ is_control (cell_at old.cells node.place) → IsNamedAs old new node name → Lengthens old new
+Lengthens-named {old} {new} {node} {name} inside nameless same n =
     let place = node.place in
     let was = cell_at old.cells place in
     let now = named_as was name in

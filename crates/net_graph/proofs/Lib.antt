@@ -12,3 +12,4 @@ pub mod BoundLemmas
 pub mod CountLemmas
 pub mod NumberLemmas
 pub mod DepthLemmas
+pub mod TableLemmas

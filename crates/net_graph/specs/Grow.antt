@@ -5,6 +5,7 @@ use Rattle.net_graph.specs.declared.cell.Node.{Node}
 use Rattle.net_graph.specs.declared.cell.Item.{Item}
 use Rattle.net_graph.specs.declared.cell.Item.TheVariants.{Register}
 use Rattle.net_graph.specs.declared.name.Name.{Name}
+use Rattle.net_graph.specs.declared.name.NameKind.TheVariants.{Control}
 use Rattle.net_graph.specs.Cells.{NetView, cell_at}
 use Rattle.net_graph.specs.Name.{is_control, is_input}
 use Rattle.net_graph.specs.Cut.{Cut, IsCut}
@@ -71,9 +72,37 @@ pub record IsAdded (group : ℕ) (cell : Cell) : Type 0 where
 
 -- The new net has more nodes than the old, of its group or of control. Its registers have their nexts if the old net's had, and its
 -- control nodes read control nodes alone if those of the old net did.
+pub record Lengthens (old new : NetView) : Type 0 where
+  pub extends : Extends old.cells new.cells
+  pub group : new.group ≡ old.group
+  pub bound : IsBound old.cells → IsBound new.cells
+  pub closed : IsControlClosed old.cells → IsControlClosed new.cells
+  pub added : (place : ℕ) (cell : Cell) → length old.cells ≤ place → slice_get new.cells place ≡ Some cell → IsAdded old.group cell
+
+-- the name is of this group; where that is group 0, it is a name of control
+pub record IsNamedIn (group : ℕ) (name : Name) : Type 0 where
+  pub own : name.group ≡ group
+  pub control : group ≡ 0 → name.kind ≡ Control
+
+-- the node's name, where it has one, is of the node's group
+pub record HasOwnName (cell : Cell) : Type 0 where
+  pub named : (name : Name) → cell.name ≡ Some name → IsNamedIn cell.group name
+
+-- so it is with each node from this place on
+pub record HaveOwnNames (first : ℕ) (cells : List Cell) : Type 0 where
+  pub each : (place : ℕ) (cell : Cell) → first ≤ place → slice_get cells place ≡ Some cell → HasOwnName cell
+
+-- each cell of the old net stands unchanged in the new
+pub record KeepsCells (old new : List Cell) : Type 0 where
+  pub each : (place : ℕ) (cell : Cell) → slice_get old place ≡ Some cell → slice_get new place ≡ Some cell
+
+-- So does what a stage adds, and more: where each register of the old net had its next, each of its nodes is as it was, its name included,
+-- and each node that is added has a name of its own group, if any.
 pub record Grows (old new : NetView) : Type 0 where
   pub extends : Extends old.cells new.cells
   pub group : new.group ≡ old.group
   pub bound : IsBound old.cells → IsBound new.cells
   pub closed : IsControlClosed old.cells → IsControlClosed new.cells
   pub added : (place : ℕ) (cell : Cell) → length old.cells ≤ place → slice_get new.cells place ≡ Some cell → IsAdded old.group cell
+  pub kept : IsBound old.cells → KeepsCells old.cells new.cells
+  pub named : IsBound old.cells → HaveOwnNames (length old.cells) new.cells

@@ -8,4 +8,5 @@ pub mod Control
 pub mod Count
 pub mod Names
 pub mod Numbers
+pub mod Tables
 pub mod Depth

@@ -13,6 +13,3 @@ pub use laws::{law_of_control, law_of_growth, law_of_runs};
 pub use name::{Name, NameKind, name_text};
 pub use net::Net;
 pub use netlist::{NetFault, Netlist};
-
-#[cfg(test)]
-mod tests;

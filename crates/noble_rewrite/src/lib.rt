@@ -8,6 +8,3 @@ mod turns;
 
 pub use turn::Applied;
 pub use turns::{Rewritten, rewrite};
-
-#[cfg(test)]
-mod tests;

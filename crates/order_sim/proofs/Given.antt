@@ -10,11 +10,12 @@ use Rattle.verilog_tree.specs.Cycle.{circuit_of}
 use Rattle.verilog_tree.specs.Tree.{Design}
 use Rattle.settle_order.specs.Placing.{opened_of}
 use Rattle.clock_sim.specs.Simulated.{Marked}
-use Rattle.event_order.specs.Drawn.{is_given, declared_names}
+use Rattle.event_order.specs.Drawn.{is_given}
+use Rattle.order_sim.specs.Drawing.{signal_names}
 use Rattle.order_sim.proofs.Flags.{none_set}
 
 pub mark_tells : (d : Design) (v : Values) (cleared marks : List Bool) (n i : ℕ) (s : Signal) → cleared ≡ replicate n false → Marked (given_by (circuit_of d).processes v) (opened_of cleared) (opened_of marks)
-    → i < length d.signals → s ≡ get_or d.signals i s → opened_of marks s.name ≡ is_given (circuit_of d) (declared_names d) v i
+    → i < length d.signals → s ≡ get_or d.signals i s → opened_of marks s.name ≡ is_given (circuit_of d) (signal_names d) v i
 mark_tells d v cleared marks n i s clear marked lt read =
     let at = slice_get-map (λ (s : Signal). s.name) d.signals i ∙ ap (option_map (λ (s : Signal). s.name)) (slice_get_read d.signals (length d.signals) i s refl lt read) in
     marked.each s.name

@@ -5,4 +5,5 @@ pub mod Given
 pub mod Passing
 pub mod Reading
 pub mod Settling
+pub mod TextOrder
 pub mod Turns

@@ -1,5 +1,7 @@
 -- What a simulator keeps while it draws the assignments of a cycle.
-use Rattle.std.specs.Prelude.{◌≡◌, ℕ, zero, suc, ◌<◌, ◌+◌, ◌==◌, Bool, true, false, not, ◌&&◌, List, [], ◌∷◌, ◌++◌, Some, length, slice_get, slice_index, if◌then◌else◌}
+use Rattle.std.specs.Prelude.{◌≡◌, ℕ, zero, suc, ◌<◌, ◌+◌, ◌==◌, Bool, true, false, not, ◌&&◌, List, [], ◌∷◌, ◌++◌, map, Some, length, slice_get, slice_index, if◌then◌else◌}
+use Rattle.verilog_tree.specs.declared.tree.Signal.{Signal}
+use Rattle.verilog_tree.specs.Tree.{Design}
 use Rattle.verilog_tree.specs.Circuit.{Circuit}
 use Rattle.settle_order.specs.Placing.{opened_of}
 use Rattle.event_order.specs.Drawn.{how_many, is_taken, reads_wire, open_reads}
@@ -23,6 +25,10 @@ pub record AreReaders (c : Circuit) (all : List Readers) : Type 0 where
 pub record CountReads (c : Circuit) (counts : List ℕ) : Type 0 where
   pub count : length counts ≡ length c.drivers
   pub each : (k : ℕ) → k < length c.drivers → slice_index counts k ≡ open_reads c [] k
+
+-- the names of the signals of a module, in their order
+abbrev pub signal_names : Design → List ℕ
+signal_names d = map (λ (s : Signal). s.name) d.signals
 
 -- how often a place is in a list
 abbrev pub times : List ℕ → ℕ → ℕ

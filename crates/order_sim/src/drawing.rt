@@ -8,7 +8,7 @@ ghost use Rattle.settle_order.specs.Placing.{opened_of};
 ghost use Rattle.clock_sim.specs.Sim.{IsSound};
 ghost use Rattle.clock_sim.specs.Simulated.{values_of};
 ghost use Rattle.event_order.specs.Drawn.{how_many, place_of, state_after, last_evaluated, declared_names, update_count};
-ghost use Rattle.order_sim.specs.Drawing.{times, AreReaders, CountReads, AreFlagged, AreUndone, AreCountedDown};
+ghost use Rattle.order_sim.specs.Drawing.{times, AreReaders, CountReads, AreFlagged, AreUndone, AreCountedDown, signal_names};
 
 use crate::readers::Readers;
 use clock_sim::Sim;
@@ -114,11 +114,11 @@ pub(crate) fn settle_drawn(
     }
 }
 
-/// How many registers the blocks give a value.
-pub(crate) fn count_given(sim: &Sim<'_>, design: &Module, marks: &mut [bool]) -> usize
+// How many registers the blocks give a value, by the signals in their order.
+fn count_signals(sim: &Sim<'_>, design: &Module, marks: &mut [bool]) -> usize
     requires design { sim.now.design ≡ design.now }
     requires sizes { length marks.old ≡ length sim.now.values }
-    ensures { result ≡ update_count (circuit_of (design_view design.now)) (declared_names (design_view design.now)) (values_of sim.now.values) }
+    ensures { result ≡ update_count (circuit_of (design_view design.now)) (signal_names (design_view design.now)) (values_of sim.now.values) }
 {
     marks.fill(false);
     sim.mark_given(marks);
@@ -129,6 +129,15 @@ pub(crate) fn count_given(sim: &Sim<'_>, design: &Module, marks: &mut [bool]) ->
         }
     }
     count
+}
+
+/// How many registers the blocks give a value.
+pub(crate) fn count_given(sim: &Sim<'_>, design: &Module, marks: &mut [bool]) -> usize
+    requires design { sim.now.design ≡ design.now }
+    requires sizes { length marks.old ≡ length sim.now.values }
+    ensures { result ≡ update_count (circuit_of (design_view design.now)) (declared_names (design_view design.now)) (values_of sim.now.values) }
+{
+    count_signals(sim, design, marks)
 }
 
 /// The state after so many draws.

@@ -1,6 +1,7 @@
 // A simulator that draws.
 
 ghost use Rattle.std.specs.Prelude.{◌≡◌, ℕ, ◌^◌, ◌<◌, IfOk, Some, length, slice_get};
+ghost use Rattle.verilog_tree.specs.Checks.{Passes};
 ghost use Rattle.verilog_tree.specs.Meaning.{Values};
 ghost use Rattle.verilog_tree.specs.Names.{shapes_of};
 ghost use Rattle.verilog_tree.specs.Shown.{ports_of};
@@ -9,10 +10,12 @@ ghost use Rattle.verilog_tree.specs.declared.tree.Signal.{Signal};
 ghost use Rattle.clock_sim.specs.Sim.{IsSound, AreInitial, HoldInitial, IsDataWidth, cycle_of};
 ghost use Rattle.clock_sim.specs.Simulated.{values_of};
 ghost use Rattle.order_sim.specs.Cycle.{RunsDrawn};
+ghost use Rattle.order_sim.specs.Laws.{EveryOrderTells};
 
 use crate::drawing::{count_given, draw_on, settle_drawn};
 use crate::readers::{Readers, all_readers, read_counts};
 use clock_sim::{PortShape, Sim};
+use formed_module::FormedModule;
 use mr_values::Memory;
 use std::alloc::Global;
 use std::marker::Model;
@@ -55,21 +58,38 @@ impl<'a> Model for OrderSim<'a> {
 }
 
 impl<'a> OrderSim<'a> {
-    /// A simulator of a module whose registers have these patterns, one for each in the order of their declarations, and which draws from
-    /// this number. Fails only for want of memory.
+    /// A simulator of a module that passes the checks, whose registers have these patterns, one for each in the order of their declarations,
+    /// and which draws from this number. Fails only for want of memory.
     pub fn start(
         alloc: Global,
-        design: &'a Module,
+        design: &'a FormedModule,
         initial: &[u128],
         number: u64,
     ) -> Result<OrderSim<'a>, Memory>
-        requires sound { IsSound (design_view design.now) }
+        requires passes { Passes (design_view design.now) }
         requires fits { AreInitial (shapes_of (design_view design.now)) design.now.signals.items initial.now }
         ensures design { IfOk result (λ sim. sim.design ≡ design.now) }
         ensures values { IfOk result (λ sim. HoldInitial design.now.signals.items initial.now sim.values) }
         ensures number { IfOk result (λ sim. sim.number ≡ number) }
     {
         let sim = Sim::start(alloc, design, initial)?;
+        OrderSim::of_sim(alloc, design.tree(), sim, number)
+    }
+
+    // The simulator that draws for the tree of a simulator.
+    fn of_sim(
+        alloc: Global,
+        design: &'a Module,
+        sim: Sim<'a>,
+        number: u64,
+    ) -> Result<OrderSim<'a>, Memory>
+        requires same { sim.design ≡ design.now }
+        requires sound { IsSound (design_view design.now) }
+        requires count { length sim.values ≡ length design.now.names.items }
+        ensures design { IfOk result (λ drawer. drawer.design ≡ sim.entry.design) }
+        ensures values { IfOk result (λ drawer. drawer.values ≡ sim.entry.values) }
+        ensures number { IfOk result (λ drawer. drawer.number ≡ number) }
+    {
         let readers = all_readers(alloc, design)?;
         let reads = read_counts(alloc, design)?;
         let waiting = Vec::from_elem(alloc, 0, design.assigns.len())?;
@@ -89,12 +109,13 @@ impl<'a> OrderSim<'a> {
 
     /// Runs a cycle in the order that is drawn, and tells what is seen in it; `in_data` fits its port. It takes no memory.
     ///
-    /// The assignments are evaluated as they are drawn. Blocks and updates have the same outcome in every order, so that of theirs only the
-    /// draws are made.
+    /// What is seen, and the values afterwards, are what every order of the steps of the cycle tells, from these registers, any wires and any
+    /// earlier inputs. The assignments are evaluated as they are drawn. Blocks and updates have the same outcome in every order, so that of
+    /// theirs only the draws are made.
     pub fn cycle(&mut self, rst: bool, ce: bool, in_data: u128) -> Seen
         requires { in_data < 2 ^ (shapes_of (design_view self.old.design)).width (ports_of (design_view self.old.design)).in_data }
         ensures design { self.new.design ≡ self.old.design }
-        ensures runs { (wires : Values) × RunsDrawn (design_view self.old.design) (values_of self.old.values) self.old.number (cycle_of rst ce in_data) result wires (values_of self.new.values) self.new.number }
+        ensures runs { (wires : Values) × RunsDrawn (design_view self.old.design) (values_of self.old.values) self.old.number (cycle_of rst ce in_data) result wires (values_of self.new.values) self.new.number × EveryOrderTells (design_view self.old.design) (values_of self.old.values) self.old.number (cycle_of rst ce in_data) result wires (values_of self.new.values) }
         ensures small { result.out_data < 2 ^ (shapes_of (design_view self.old.design)).width (ports_of (design_view self.old.design)).out_data }
     {
         self.sim.set_inputs(rst, ce, in_data);

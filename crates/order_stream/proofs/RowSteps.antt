@@ -1,11 +1,11 @@
 -- What is given for cycles row by row, at each point of their file.
-use Rattle.std.proofs.Common.{◌≡◌, ◌∙◌, ℕ, zero, suc, ◌+◌, arith, zero-add, List, [], ◌∷◌, ◌++◌, drop, Option, Some, None, Result, Ok, Err, refl, sym, ap, subst, append_assoc, append-nil}
+use Rattle.std.proofs.Common.{◌≡◌, ◌∙◌, ℕ, ◌+◌, List, [], ◌++◌, Option, Some, None, Result, Ok, Err, refl, sym, subst, append-nil}
 use Rattle.verilog_tree.specs.Tree.{Design}
 use Rattle.sample_file.specs.declared.fault.LineFault.{LineFault}
 use Rattle.sample_file.specs.declared.ranges.Stimulus.{Stimulus}
 use Rattle.sample_file.specs.declared.row.Row.{Row}
 use Rattle.sample_file.specs.Reading.{Place, Reading, rows_from, row_then, no_rows, refused}
-use Rattle.sample_file.specs.Ranges.{Checked, item_then}
+use Rattle.sample_file.specs.Ranges.{item_then}
 use Rattle.row_stream.specs.declared.fault.StreamFault.{StreamFault}
 use Rattle.row_stream.specs.declared.fault.StreamFault.TheVariants.{Line, Memory}
 use Rattle.row_stream.specs.Giving.{Giving, GoesOn, Takes, Closes}

@@ -3,14 +3,13 @@ use Rattle.std.specs.Prelude.{◌≡◌, ℕ, List, map, Option}
 use Rattle.verilog_tree.specs.Tree.{Design}
 use Rattle.verilog_tree.specs.Meaning.{Values}
 use Rattle.verilog_tree.specs.Names.{shapes_of}
-use Rattle.verilog_tree.specs.Circuit.{IsSource}
 use Rattle.verilog_tree.specs.Cycle.{circuit_of}
 use Rattle.verilog_tree.specs.Shown.{Cycle, RunsOver, ports_of, events_of}
 use Rattle.sample_file.specs.declared.fault.LineFault.{LineFault}
 use Rattle.sample_file.specs.declared.ranges.Stimulus.{Stimulus}
 use Rattle.sample_file.specs.Ranges.{Checked}
-use Rattle.event_order.specs.Laws.{inputs_over}
-use Rattle.event_order.specs.Order.{Moment, AreOrders, first_moment}
+use Rattle.event_order.specs.Laws.{inputs_over, IsRegister, AreCyclesOf}
+use Rattle.event_order.specs.Order.{AreOrders, first_moment}
 use Rattle.order_stream.specs.Ordered.{Ordered, ordered_events, GivesOrdered}
 
 -- from any registers and in any state of the draws on, cycles give exactly one text
@@ -19,9 +18,10 @@ HasOneOrderedText d = (content : Values) (cycle tick state : ℕ) (cycles : Chec
     → (text : List ℕ) × GivesOrdered d content cycle tick state cycles text cycles.fault
     × ((other : List ℕ) (last : Option LineFault) → GivesOrdered d content cycle tick state cycles other last → other ≡ text)
 
--- in every order of the cycles, from these registers and any wires with every assignment pending, the outputs that are read show the same as the run,
--- and so do the drawn steps of every state, but for the last assignments
+-- In every order of the cycles, from these registers, any wires and any earlier inputs, with every assignment pending, the outputs that are read show the
+-- same as the run, and so do the drawn steps of every state, but for the last assignments. In each cycle, tick or not, the outputs are read from the
+-- settled wires, and the registers at its end are the next ones.
 abbrev pub EveryOrderShows : Design → Type 0
-EveryOrderShows d = (content begun : Values) (cycles : List Cycle) (settled reads : List Values) (after : Moment) (cycle tick state : ℕ)
-    → ((n : ℕ) → IsSource (circuit_of d) n → begun n ≡ content n) → RunsOver d content cycles settled → AreOrders (circuit_of d) (inputs_over d cycles) (first_moment begun) reads after
-    → events_of (shapes_of d) (ports_of d) cycles reads cycle tick ≡ map (λ (o : Ordered). o.event) (ordered_events d cycles settled cycle tick state)
+EveryOrderShows d = (content begun : Values) (cycles : List Cycle) (settled reads ends : List Values) (cycle tick state : ℕ)
+    → ((n : ℕ) → IsRegister d n → begun n ≡ content n) → RunsOver d content cycles settled → AreOrders (circuit_of d) (inputs_over d cycles) (first_moment begun) reads ends
+    → (events_of (shapes_of d) (ports_of d) cycles reads cycle tick ≡ map (λ (o : Ordered). o.event) (ordered_events d cycles settled cycle tick state)) × AreCyclesOf d settled reads ends

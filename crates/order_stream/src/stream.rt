@@ -1,13 +1,14 @@
 // A simulation that draws, of a stimulus that comes in pieces.
 ghost use Rattle.std.specs.Prelude.{◌≡◌, ◌≤◌, ◌<◌, ◌+◌, ◌^◌, length, IfOk, OnOk};
 ghost use Rattle.verilog_tree.specs.View.{design_view};
-ghost use Rattle.clock_sim.specs.Sim.{IsSound};
+ghost use Rattle.verilog_tree.specs.Checks.{Passes};
 ghost use Rattle.sample_file.specs.Reading.{most_before};
 ghost use Rattle.row_stream.specs.Giving.{Takes};
 ghost use Rattle.order_stream.specs.Stream.{IsStart, GivesFrom};
 
 use crate::cycle::run_cycle;
 use crate::laws::law_of_one_text;
+use formed_module::FormedModule;
 use mr_values::Memory;
 use order_sim::OrderSim;
 use row_stream::{FULL, RowStream, StreamFault};
@@ -15,7 +16,6 @@ use sample_file::Lines;
 use sim_stream::register_count;
 use std::alloc::Global;
 use std::marker::Model;
-use verilog_tree::Module;
 
 /// A simulation of a module that draws, in the midst of its stimulus.
 #[derive(Drop)]
@@ -62,12 +62,16 @@ impl<'a> OrderStream<'a> {
         }
     }
 
-    /// A simulation of a module from registers of 0, which draws from this number, before its stimulus. Fails only for want of memory.
-    pub fn start(alloc: Global, design: &'a Module, number: u64) -> Result<OrderStream<'a>, Memory>
-        requires { IsSound (design_view design.now) }
+    /// A simulation of a module that passes the checks, from registers of 0, which draws from this number, before its stimulus. Fails only for want of memory.
+    pub fn start(
+        alloc: Global,
+        design: &'a FormedModule,
+        number: u64,
+    ) -> Result<OrderStream<'a>, Memory>
+        requires { Passes (design_view design.now) }
         ensures { IfOk result (λ stream. IsStart stream design.now number) }
     {
-        let initial = Vec::from_elem(alloc, 0u128, register_count(design))?;
+        let initial = Vec::from_elem(alloc, 0u128, register_count(design.tree()))?;
         Ok(OrderStream {
             lines: Lines::new(alloc, 3)?,
             sim: OrderSim::start(alloc, design, &initial, number)?,

@@ -1,6 +1,6 @@
 -- A register that counts to a tick, and then over and over a period up to the same number, all modulo 2 ^ w.
 use Rattle.std.proofs.Common.{◌≡◌, ℕ, zero, suc, ◌+◌, ◌*◌, ◌^◌, ◌<◌, ◌≤◌, refl, sym, ◌∙◌, ap, arith, Some, None, subst, ℤ, pos, negsuc, ◌+ℤ◌, ◌-ℤ◌, ◌≤ℤ◌, ◌<ℤ◌, ◌⊎◌, inl, inr, true, false, not, eqb, Bool, ◌&&◌, length, slice_get, List}
-use Rattle.std.proofs.lemmas.Bool.{cases_eq}
+use Rattle.std.proofs.lemmas.Bool.{cases_eq, cases_lt}
 use Rattle.std.proofs.lemmas.Int.{ints}
 use Rattle.std.proofs.lemmas.Option.{slice_get_within}
 use Rattle.std.proofs.Math.Nat.{mul-le-mul_right}
@@ -17,14 +17,14 @@ use Rattle.net_graph.specs.Name.{is_input}
 use Rattle.net_graph.specs.Cut.{Cut, IsCut}
 use Rattle.net_graph.specs.Run.{Values, IsRun, equality}
 use Rattle.net_graph.specs.Control.{IsOfControl}
-use Rattle.net_graph.specs.Grow.{Extends, Grows, Adds, IsBoundTo, IsAdded}
+use Rattle.net_graph.specs.Grow.{Extends, Grows, Adds, IsBoundTo}
 use Rattle.net_graph.proofs.Lists.{slice_get-append_left, slice_get-set_other}
 use Rattle.net_graph.proofs.GroupLemmas.{nameless_zero}
 use Rattle.net_graph.proofs.NetLemmas.{Extends-adds, cell_of_added, cell_of_register, cell_of_bound}
 use Rattle.net_graph.proofs.CellLemmas.{cell_at-is}
-use Rattle.net_graph.proofs.GrowLemmas.{IsOfControl-later, GrowsBut, GrowsBut-register, GrowsBut-adds, GrowsBut-unbound, Grows-bind, Extends-grown, cell_of_grown}
+use Rattle.net_graph.proofs.GrowLemmas.{IsOfControl-later, named_control, Grows-regroup, GrowsBut, GrowsBut-register, GrowsBut-adds, GrowsBut-unbound, Grows-bind, Extends-grown, cell_of_grown}
 use Rattle.pipeline_balance.specs.Numbered.{AddsNext, name_of}
-use Rattle.pipeline_balance.specs.Gate.{IsTickOf, IsCounter, AddsCount}
+use Rattle.pipeline_balance.specs.Gate.{IsTickOf, IsCounter, IsCountOf, AddsCount}
 use Rattle.pipeline_balance.specs.Bits.{IsBitsFor}
 use Rattle.pipeline_balance.proofs.WrapLemmas.{wrap-+, wrap_twice, wrap_apart, wrap-one, equality-same, equality_apart}
 use Rattle.pipeline_balance.proofs.CostLemmas.{SameAdders-trans, SameAdders-register, SameAdders-plain, SameAdders-control, SameAdders-bind, SameNamed-trans, SameNamed-adds, SameNamed-register, SameNamed-bind}
@@ -125,6 +125,28 @@ module _ (v : Values) (w period first : ℕ) (count last restart one done more n
       differs : (i : ℕ) → (i ≡ period → ⊥) → pos (first + i) -ℤ pos period ≡ pos first → ⊥
       differs i ne f = omega (arith, ints)
 
+  -- the count up to `first`, and after it
+  counted_early : (t : ℕ) → t ≤ first → v t count.place ≡ wrap w (pos t)
+  counted_early t h = elim (counted t) [
+    | inl b ↦ b.value
+    | inr a ↦ let s = a.some in let e = a.tick in absurd (omega arith)
+  ]
+
+  counted_again : (k i : ℕ) → 1 ≤ i → i ≤ period → v (first + k * period + i) count.place ≡ wrap w (pos (first + i) -ℤ pos period)
+  counted_again k i low high = elim (counted (first + k * period + i)) [
+    | inl b ↦ let h = b.early in absurd (omega arith)
+    | inr a ↦ a.value ∙ ap (λ (n : ℕ). wrap w (pos (first + n) -ℤ pos period)) (same_step a.k k a.i i a.some a.most low high (sym a.tick))
+  ]
+    where
+      same_step : (k m i j : ℕ) → 1 ≤ i → i ≤ period → 1 ≤ j → j ≤ period → first + k * period + i ≡ first + m * period + j → i ≡ j
+      same_step k m i j some most some' most' e = elim (cases_lt k m) [
+        | inl less ↦ let f : suc k * period ≤ m * period = mul-le-mul_right period less in absurd (omega arith)
+        | inr le ↦ elim (cases_lt m k) [
+          | inl less ↦ let f : suc m * period ≤ k * period = mul-le-mul_right period less in absurd (omega arith)
+          | inr ge ↦ let same : k * period ≡ m * period = ap (λ (n : ℕ). n * period) (omega arith) in omega arith
+        ]
+      ]
+
   -- a tick of the period within i ticks after one is at the end
   tick_at_end : (k m i : ℕ) → 1 ≤ i → i ≤ period → first + k * period + i ≡ first + m * period → i ≡ period
   tick_at_end k m i h l e = elim (cases_eq i period) [
@@ -183,10 +205,10 @@ pub there_bound : {old new : NetView} {register next : Node} {cell : Cell} (plac
 there_bound {old} {new} {register} {next} {cell} place b other there = subst (λ (m : List Cell). slice_get m place ≡ Some cell) (sym b.cells) (slice_get-set_other old.cells register.place place _ other ∙ there)
 
 -- the circuit, node by node
-pub IsCounter-circuit : {n0 n1 n2 n3 n4 n5 n6 n7 n8 : NetView} {w period first : ℕ} {count last restart one done more next : Node} → 1 ≤ w → 1 ≤ period → first < 2 ^ w → period ≤ 2 ^ w → n0.group ≡ 0
+pub count_circuit : {n0 n1 n2 n3 n4 n5 n6 n7 n8 : NetView} {w period first : ℕ} {count last restart one done more next : Node} → 1 ≤ w → 1 ≤ period → first < 2 ^ w → period ≤ 2 ^ w → n0.group ≡ 0
     → AddsNext n0 n1 0 Control w count → Adds n1 n2 last w (Constant (wrap w (pos first))) → Adds n2 n3 restart w (Constant (wrap w (pos (first + 1) -ℤ pos period))) → Adds n3 n4 one w (Constant (wrap w (pos 1))) → Adds n4 n5 done 1 (Equal count last)
-    → Adds n5 n6 more w (Add count one) → Adds n6 n7 next w (Mux done restart more) → IsBoundTo n7 n8 count next → IsCounter n0 n8 (IsTickOf period first) done
-IsCounter-circuit {n0} {n1} {n2} {n3} {n4} {n5} {n6} {n7} {n8} {w} {period} {first} {count} {last} {restart} {one} {done} {more} {next} wide positive room_first room_period g0 a1 a2 a3 a4 a5 a6 a7 b =
+    → Adds n5 n6 more w (Add count one) → Adds n6 n7 next w (Mux done restart more) → IsBoundTo n7 n8 count next → IsCounter n0 n8 (IsTickOf period first) done × IsCountOf n8.cells period first w count
+count_circuit {n0} {n1} {n2} {n3} {n4} {n5} {n6} {n7} {n8} {w} {period} {first} {count} {last} {restart} {one} {done} {more} {next} wide positive room_first room_period g0 a1 a2 a3 a4 a5 a6 a7 b =
     let own : Cell = record { group = n0.group; name = Some (name_of 0 Control a1.number); width = w; item = None } in
     let g1 : n1.group ≡ 0 = a1.adds.group ∙ g0 in
     let g2 : n2.group ≡ 0 = a2.group ∙ g1 in
@@ -207,32 +229,39 @@ IsCounter-circuit {n0} {n1} {n2} {n3} {n4} {n5} {n6} {n7} {n8} {w} {period} {fir
     let p5 : GrowsBut n0 n5 count own = GrowsBut-adds p4 a5 refl (λ z. (count4, last4)) in
     let p6 : GrowsBut n0 n6 count own = GrowsBut-adds p5 a6 refl (λ z. (control_then count4 a5, one5)) in
     let p7 : GrowsBut n0 n7 count own = GrowsBut-adds p6 a7 refl (λ z. (done6, restart6, control_added a6 g5 refl)) in
-    let grows : Grows n0 n8 = Grows-bind p7 wide b (λ is. control_added a7 g6 refl) in
+    let grows : Grows n0 n8 = Grows-bind (named_control own (name_of 0 Control a1.number) refl (sym g0) refl) p7 wide b (λ is. control_added a7 g6 refl) in
     let x7 : Extends n7.cells n8.cells = Extends-grown p7 wide b in
     let own_inside : count.place < length n1.cells = slice_get_within n1.cells count.place _ (cell_of_register a1.adds) in
     let longer : length n1.cells ≤ length n4.cells = let l2 = (Extends-adds a2).longer in let l3 = (Extends-adds a3).longer in let l4 = (Extends-adds a4).longer in omega arith in
-    let there = there_bound done.place b (λ same. let at = a5.place in absurd (omega arith)) (there_then done.place a7 (there_then done.place a6 (cell_of_added a5))) in
-    record {
-      grows = grows;
-      shape = record { cell = _; there = there; same_control = nameless_zero n4.group g4; same_width = refl };
-      nameless = refl;
-      bit_of = record {
-        within = slice_get_within n8.cells done.place _ there;
-        control = record { cell = _; there = there; control = nameless_zero n4.group g4 };
-        sets = λ cut law x v r. sets v w period first count last restart one done more next wide positive room_first room_period (counts p7 x7 cut law x v r);
-        clears = λ cut law x v r. clears v w period first count last restart one done more next wide positive room_first room_period (counts p7 x7 cut law x v r);
-      };
-      names = record {
-        free = λ name other f. free_bind (GrowsBut-unbound p7) b name
-            (free_adds a7 name (free_adds a6 name (free_adds a5 name (free_adds a4 name (free_adds a3 name (free_adds a2 name (free_register a1.adds name (λ e. other (ap (λ (m : Name). m.kind) e)) f)))))));
-      };
-      adders = SameAdders-trans (SameAdders-register a1.adds) (SameAdders-trans (SameAdders-plain a2 refl) (SameAdders-trans (SameAdders-plain a3 refl) (SameAdders-trans (SameAdders-plain a4 refl)
-          (SameAdders-trans (SameAdders-plain a5 refl) (SameAdders-trans (SameAdders-control g5 a6) (SameAdders-trans (SameAdders-plain a7 refl) (SameAdders-bind (GrowsBut-unbound p7) b)))))));
-      named = SameNamed-trans (SameNamed-register refl refl a1.adds) (SameNamed-trans (SameNamed-adds a2) (SameNamed-trans (SameNamed-adds a3) (SameNamed-trans (SameNamed-adds a4)
-          (SameNamed-trans (SameNamed-adds a5) (SameNamed-trans (SameNamed-adds a6) (SameNamed-trans (SameNamed-adds a7) (SameNamed-bind (GrowsBut-unbound p7) b)))))));
-      linear = KeepsShapes-trans (KeepsShapes-register a1.adds) (KeepsShapes-trans (KeepsShapes-control g1 a2) (KeepsShapes-trans (KeepsShapes-control g2 a3) (KeepsShapes-trans (KeepsShapes-control g3 a4)
-          (KeepsShapes-trans (KeepsShapes-control g4 a5) (KeepsShapes-trans (KeepsShapes-control g5 a6) (KeepsShapes-trans (KeepsShapes-control g6 a7) (KeepsShapes-bind x7 (GrowsBut-unbound p7) b)))))));
-    }
+    let there = there_bound done.place b (λ same. let at = a5.place in absurd (omega arith)) (there_then done.place a7 (there_then done.place a6 (cell_of_added a5))) in (
+      record {
+        grows = grows;
+        shape = record { cell = _; there = there; same_control = nameless_zero n4.group g4; same_width = refl };
+        nameless = refl;
+        bit_of = record {
+          within = slice_get_within n8.cells done.place _ there;
+          control = record { cell = _; there = there; control = nameless_zero n4.group g4 };
+          sets = λ cut law x v r. sets v w period first count last restart one done more next wide positive room_first room_period (counts p7 x7 cut law x v r);
+          clears = λ cut law x v r. clears v w period first count last restart one done more next wide positive room_first room_period (counts p7 x7 cut law x v r);
+        };
+        names = record {
+          free = λ name other f. free_bind (GrowsBut-unbound p7) b name
+              (free_adds a7 name (free_adds a6 name (free_adds a5 name (free_adds a4 name (free_adds a3 name (free_adds a2 name (free_register a1.adds name (λ e. other (ap (λ (m : Name). m.kind) e)) f)))))));
+        };
+        adders = SameAdders-trans (SameAdders-register a1.adds) (SameAdders-trans (SameAdders-plain a2 refl) (SameAdders-trans (SameAdders-plain a3 refl) (SameAdders-trans (SameAdders-plain a4 refl)
+            (SameAdders-trans (SameAdders-plain a5 refl) (SameAdders-trans (SameAdders-control g5 a6) (SameAdders-trans (SameAdders-plain a7 refl) (SameAdders-bind (GrowsBut-unbound p7) b)))))));
+        named = SameNamed-trans (SameNamed-register refl refl a1.adds) (SameNamed-trans (SameNamed-adds a2) (SameNamed-trans (SameNamed-adds a3) (SameNamed-trans (SameNamed-adds a4)
+            (SameNamed-trans (SameNamed-adds a5) (SameNamed-trans (SameNamed-adds a6) (SameNamed-trans (SameNamed-adds a7) (SameNamed-bind (GrowsBut-unbound p7) b)))))));
+        linear = KeepsShapes-trans (KeepsShapes-register a1.adds) (KeepsShapes-trans (KeepsShapes-control g1 a2) (KeepsShapes-trans (KeepsShapes-control g2 a3) (KeepsShapes-trans (KeepsShapes-control g3 a4)
+            (KeepsShapes-trans (KeepsShapes-control g4 a5) (KeepsShapes-trans (KeepsShapes-control g5 a6) (KeepsShapes-trans (KeepsShapes-control g6 a7) (KeepsShapes-bind x7 (GrowsBut-unbound p7) b)))))));
+      },
+      record {
+        within = slice_get_within n8.cells count.place _ (cell_of_grown p7 b);
+        control = record { cell = _; there = cell_of_grown p7 b; control = refl };
+        early = λ cut law x v r. counted_early v w period first count last restart one done more next wide positive room_first room_period (counts p7 x7 cut law x v r);
+        again = λ cut law x v r. counted_again v w period first count last restart one done more next wide positive room_first room_period (counts p7 x7 cut law x v r);
+      },
+    )
   where
     counts : GrowsBut n0 n7 count (record { group = n0.group; name = Some (name_of 0 Control a1.number); width = w; item = None }) → Extends n7.cells n8.cells → (cut : Cut) → IsCut cut → (x : ℕ → ℤ) (v : Values) → IsRun cut n8.cells x v → Counts v w first (pos (first + 1) -ℤ pos period) count last restart one done more next
     counts p7 x7 cut law x v r =
@@ -285,9 +314,6 @@ AddsCount-circuit {n0} {n1} {n2} {n3} {n4} {n5} {n6} {n7} {n8} {w} {w5} {count} 
 
 -- ---- in a net whose group is another
 
-pub added_anyhow : (group : ℕ) (cell : Cell) → IsAdded 0 cell → IsAdded group cell
-added_anyhow group cell a = record { of_group = elim a.of_group [ inl e ↦ inl e | inr e ↦ inl e ]; no_input = a.no_input }
-
 -- nodes that were added as control are added to a net of any group
 pub IsCounter-regroup : {old mid new last : NetView} {ticks : ℕ → Type 0} {bit : Node} {group : ℕ} → group ≡ old.group → (let alone : NetView = record { cells = old.cells; group = 0 } in mid ≡ alone) → (let back : NetView = record { cells = new.cells; group = group } in last ≡ back) → IsCounter mid new ticks bit → IsCounter old last ticks bit
 IsCounter-regroup {old} {mid} {new} {last} {ticks} {bit} {group} same first put_back p =
@@ -295,13 +321,7 @@ IsCounter-regroup {old} {mid} {new} {last} {ticks} {bit} {group} same first put_
     let q : IsCounter alone new ticks bit = subst (λ (m : NetView). IsCounter m new ticks bit) first p in
     let back : NetView = record { cells = new.cells; group = old.group } in
     let r : IsCounter old back ticks bit = record {
-      grows = record {
-        extends = q.grows.extends;
-        group = refl;
-        bound = q.grows.bound;
-        closed = q.grows.closed;
-        added = λ place cell after there. added_anyhow old.group cell (q.grows.added place cell after there);
-      };
+      grows = Grows-regroup q.grows;
       shape = q.shape;
       nameless = q.nameless;
       bit_of = q.bit_of;

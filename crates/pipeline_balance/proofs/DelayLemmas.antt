@@ -1,5 +1,5 @@
 -- A delay, register by register.
-use Rattle.std.proofs.Common.{◌≡◌, ℕ, zero, suc, ◌+◌, ◌*◌, ◌<◌, length, refl, ◌∙◌, ap, arith, inl, subst, ℤ}
+use Rattle.std.proofs.Common.{◌≡◌, ℕ, zero, suc, ◌+◌, ◌*◌, ◌<◌, length, refl, ◌∙◌, ap, arith, inl, subst, ℤ, sym}
 use Rattle.net_graph.specs.declared.cell.Cell.{Cell}
 use Rattle.net_graph.specs.declared.cell.Node.{Node}
 use Rattle.net_graph.specs.declared.name.Name.{Name}
@@ -39,7 +39,7 @@ IsDelay-none net from h = record {
 
 pub IsDelay-more : {a b c : NetView} {from last to : Node} {ticks group number : ℕ} → group ≡ a.group → IsDelay a b from ticks last → IsLeastFree b.cells group Register number → IsTaken b c (record { node = last; period = 1; offset = 0 }) (name_of group Register number) to → IsDelay a c from (suc ticks) to
 IsDelay-more {a} {b} {c} {from} {last} {to} {ticks} {group} {number} same p least t = record {
-  grows = Grows-trans p.grows t.grows;
+  grows = Grows-trans p.grows (t.grows (same ∙ sym p.grows.group));
   within = t.holds.within;
   wide = ap (λ (cell : Cell). cell.width) (cell_at-is c.cells to.place t.register.cell t.register.there) ∙ t.register.wide ∙ p.wide;
   delays = λ cut law x v r s. step cut law x v r s;
@@ -49,7 +49,7 @@ IsDelay-more {a} {b} {c} {from} {last} {to} {ticks} {group} {number} same p leas
       let leaves : LeavesFree b.cells c.cells (λ name. name ≡ name_of a.group Register (count + ticks)) = subst (λ (m : Name). LeavesFree b.cells c.cells (λ name. name ≡ m)) name_is t.names in
       let used : IsFree c.cells (name_of a.group Register (count + ticks)) → ⊥ = subst (λ (m : Name). IsFree c.cells m → ⊥) name_is (λ f. f.none to.place t.register.cell t.register.there t.register.named) in
       let more : suc (count + ticks) ≡ count + suc ticks = omega arith in
-      subst (λ (k : ℕ). IsCounted c.cells a.group Register k) more (IsCounted-more a.group Register (count + ticks) t.grows.extends leaves used (p.counted count n));
+      subst (λ (k : ℕ). IsCounted c.cells a.group Register k) more (IsCounted-more a.group Register (count + ticks) t.lengthens.extends leaves used (p.counted count n));
   names = LeavesFree-trans a.cells b.cells c.cells (IsTouched a.group Register) (λ name. name ≡ name_of group Register number) (IsTouched a.group Register) (λ name h. h)
       (λ name h. inl (ap (λ (n : Name). n.group) h ∙ same, ap (λ (n : Name). n.kind) h)) p.names t.names;
   adders = SameAdders-trans p.adders t.adders;
@@ -61,4 +61,4 @@ IsDelay-more {a} {b} {c} {from} {last} {to} {ticks} {group} {number} same p leas
     step cut law x v r zero = t.holds.holds cut law x v r 0 0 (every_tick 0)
     step cut law x v r (suc s) =
         let at : 0 + s * 1 ≡ s = omega arith in
-        t.holds.holds cut law x v r (suc s) (suc s) (every_tick (suc s)) ∙ ap (λ (u : ℕ). v u last.place) at ∙ p.delays cut law x v (t.grows.extends.runs cut law x v r) s
+        t.holds.holds cut law x v r (suc s) (suc s) (every_tick (suc s)) ∙ ap (λ (u : ℕ). v u last.place) at ∙ p.delays cut law x v (t.lengthens.extends.runs cut law x v r) s

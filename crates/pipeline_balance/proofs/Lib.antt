@@ -13,3 +13,4 @@ pub mod TreeLemmas
 pub mod PhaseLemmas
 pub mod SelectLemmas
 pub mod DelayLemmas
+pub mod TicksLemmas

@@ -8,7 +8,7 @@ use Rattle.mr_values.specs.Width.{wrap}
 use Rattle.net_graph.proofs.CellLemmas.{cell_at-there, cell_at-is}
 use Rattle.net_graph.proofs.GroupLemmas.{nameless_data}
 use Rattle.net_graph.proofs.NetLemmas.{Extends-adds, IsRun-keeps, cell_of_added}
-use Rattle.net_graph.proofs.GrowLemmas.{Grows-refl, Grows-trans, Grows-data, GrowsBut-register, GrowsBut-unbound, Grows-bind, Extends-grown, cell_of_grown}
+use Rattle.net_graph.proofs.GrowLemmas.{named_own, Grows-refl, Grows-trans, Grows-data, GrowsBut-register, GrowsBut-unbound, Grows-bind, Extends-grown, cell_of_grown}
 use Rattle.net_graph.proofs.CountLemmas.{adders_plain, adders_more, adders_register, adders_bind}
 use Rattle.net_graph.specs.declared.cell.Cell.{Cell}
 use Rattle.net_graph.specs.declared.cell.Node.{Node}
@@ -117,7 +117,7 @@ TakesNode-bound {old} {mid} {new} {register} {from} {width} {group} data_group s
     let name_is : name_of group Register a.number ≡ name_of old.group Register a.number = ap (λ (g : ℕ). name_of g Register a.number) same in
     let there = cell_of_grown p b in
     record {
-      grows = Grows-bind p wide b (λ is. absurd (cc));
+      grows = Grows-bind (named_own own (name_of group Register a.number) refl same data_group) p wide b (λ is. absurd (cc));
       counts = adders_bind old.group (GrowsBut-unbound p) b ∙ adders_register old.group a.adds;
       same_named = SameNamed-trans (SameNamed-register refl refl a.adds) (SameNamed-bind (GrowsBut-unbound p) b);
       number = a.number;

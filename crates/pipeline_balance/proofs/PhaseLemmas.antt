@@ -21,7 +21,7 @@ use Rattle.net_graph.specs.Grow.{Extends, Grows, Adds, IsBoundTo}
 use Rattle.net_graph.proofs.Lists.{slice_get_push_cases}
 use Rattle.net_graph.proofs.GroupLemmas.{nameless_zero}
 use Rattle.net_graph.proofs.NetLemmas.{Extends-adds, cell_of_added, cell_of_register, Extends-bind}
-use Rattle.net_graph.proofs.GrowLemmas.{IsOfControl-later, Grows-trans, Grows-adds, GrowsBut, GrowsBut-register, GrowsBut-adds, GrowsBut-unbound, Grows-bind, Extends-grown, cell_of_grown}
+use Rattle.net_graph.proofs.GrowLemmas.{IsOfControl-later, named_control, Grows-trans, Grows-regroup, Grows-adds, GrowsBut, GrowsBut-register, GrowsBut-adds, GrowsBut-unbound, Grows-bind, Extends-grown, cell_of_grown}
 use Rattle.pipeline_balance.specs.Numbered.{AddsNext, LeavesFree, name_of}
 use Rattle.pipeline_balance.specs.Gate.{IsTickOf, IsBitOf, HasTaken, IsCounter}
 use Rattle.pipeline_balance.specs.Phase.{IsTickOfPhase, IsIndex, IsIndexOf, IsPhases}
@@ -31,7 +31,7 @@ use Rattle.pipeline_balance.specs.Shapes.{KeepsShapes}
 use Rattle.pipeline_balance.proofs.CostLemmas.{SameAdders-trans, SameAdders-register, SameAdders-plain, SameAdders-control, SameAdders-bind, SameNamed-trans, SameNamed-adds, SameNamed-register, SameNamed-bind}
 use Rattle.pipeline_balance.proofs.NumberedLemmas.{free_register, free_adds, free_bind, LeavesFree-trans}
 use Rattle.pipeline_balance.proofs.ShapeLemmas.{KeepsShapes-trans, KeepsShapes-control, KeepsShapes-register, KeepsShapes-bind}
-use Rattle.pipeline_balance.proofs.CounterLemmas.{as_control, constant_control, control_added, control_then, wrap-set_bit, added_anyhow, there_then}
+use Rattle.pipeline_balance.proofs.CounterLemmas.{as_control, constant_control, control_added, control_then, wrap-set_bit, there_then}
 use Rattle.pipeline_balance.proofs.TakenLemmas.{HasTaken-at, taken, off_tick, tick_is, IsBitOf-later}
 
 -- the number after n modulo count
@@ -48,7 +48,7 @@ mod_more n count less =
     ap (λ (m : ℕ). m % count) more ∙ add-mul-mod_self_right (n % count + 1) (n / count) count ∙ mod-eq_of_lt less
 
 -- numbers below 2 ^ w that wrap alike are one
-wrap_differs : (w a b : ℕ) → 1 ≤ w → a < 2 ^ w → b < 2 ^ w → wrap w (pos a) ≡ wrap w (pos b) → a ≡ b
+pub wrap_differs : (w a b : ℕ) → 1 ≤ w → a < 2 ^ w → b < 2 ^ w → wrap w (pos a) ≡ wrap w (pos b) → a ≡ b
 wrap_differs w a b wide small small' e = elim (cases_lt a b) [
   | inl less ↦ let same = wrap_apart w (pos a) (pos b) wide (omega (arith, ints)) (omega (arith, ints)) e in omega (arith, ints, same)
   | inr le ↦ let same = wrap_apart w (pos b) (pos a) wide (omega (arith, ints)) (omega (arith, ints)) (sym e) in omega (arith, ints, same)
@@ -153,7 +153,7 @@ IsIndex-circuit {n0} {n1} {n2} {n3} {n4} {n5} {n6} {n7} {n8} {n9} {w} {count} {o
     let p6 : GrowsBut n0 n6 index own = GrowsBut-adds p5 a6 refl (λ z. (control_then index4 a5, one5)) in
     let p7 : GrowsBut n0 n7 index own = GrowsBut-adds p6 a7 refl (λ z. (done6, none6, control_added a6 g5 refl)) in
     let p8 : GrowsBut n0 n8 index own = GrowsBut-adds p7 a8 refl (λ z. (on7, control_added a7 g6 refl, index7)) in
-    let grows : Grows n0 n9 = Grows-bind p8 wide b (λ is. control_added a8 g7 refl) in
+    let grows : Grows n0 n9 = Grows-bind (named_control own (name_of 0 Control a1.number) refl (sym g0) refl) p8 wide b (λ is. control_added a8 g7 refl) in
     let x8 : Extends n8.cells n9.cells = Extends-grown p8 wide b in
     record {
       grows = grows;
@@ -329,13 +329,7 @@ IsPhases-regroup {old} {mid} {new} {last} {period} {first} {count} {group} {bits
     let q : IsPhases alone new period first count bits = subst (λ (m : NetView). IsPhases m new period first count bits) alone_is p in
     let back : NetView = record { cells = new.cells; group = old.group } in
     let r : IsPhases old back period first count bits = record {
-      grows = record {
-        extends = q.grows.extends;
-        group = refl;
-        bound = q.grows.bound;
-        closed = q.grows.closed;
-        added = λ place cell after there. added_anyhow old.group cell (q.grows.added place cell after there);
-      };
+      grows = Grows-regroup q.grows;
       shapes = q.shapes;
       each = q.each;
       names = q.names;

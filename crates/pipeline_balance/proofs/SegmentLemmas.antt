@@ -166,6 +166,19 @@ delayed-signed_by m (suc k) (suc t) f = delayed-signed_by m k t f
 pub record StandFor (v : Values) (leaves terms : List Leaf) (level : ℕ) : Type 0 where
   pub each : (j : ℕ) (term : Leaf) → slice_get terms j ≡ Some term → (t : ℕ) → leaf_value v t term ≡ delayed level t (λ s. signed_sum v s (segment level j leaves))
 
+-- and this at one tick of the leaves
+pub record StandAt (v : Values) (leaves terms : List Leaf) (level t : ℕ) : Type 0 where
+  pub each : (j : ℕ) (term : Leaf) → slice_get terms j ≡ Some term → leaf_value v (t + level) term ≡ signed_sum v t (segment level j leaves)
+
+no_more : (a b c d : ℤ) → a ≡ c → b ≡ d → a +ℤ (b +ℤ pos 0) ≡ c +ℤ d
+no_more a b c d e f = omega (arith, ints)
+
+only : (a c : ℤ) → a ≡ c → a +ℤ pos 0 ≡ c
+only a c e = omega (arith, ints)
+
+none : (a : ℤ) → a +ℤ pos 0 ≡ a
+none a = omega (arith, ints)
+
 -- each term is negative where all its leaves are
 pub record HaveSigns (leaves terms : List Leaf) (level : ℕ) : Type 0 where
   pub each : (j : ℕ) (term : Leaf) → slice_get terms j ≡ Some term → term.negative ≡ all_negative (segment level j leaves)
@@ -191,15 +204,19 @@ module _ (leaves terms : List Leaf) (level : ℕ) (count : length terms ≡ leve
     ]
     | inr past ↦ absurd (omega (arith, past.0))
   ]
-    where
-      no_more : (a b c d : ℤ) → a ≡ c → b ≡ d → a +ℤ (b +ℤ pos 0) ≡ c +ℤ d
-      no_more a b c d e f = omega (arith, ints)
 
-      only : (a c : ℤ) → a ≡ c → a +ℤ pos 0 ≡ c
-      only a c e = omega (arith, ints)
-
-      none : (a : ℤ) → a +ℤ pos 0 ≡ a
-      none a = omega (arith, ints)
+  pub pair_sum_at : (v : Values) (t : ℕ) → StandAt v leaves terms level t → (j : ℕ) → j * 2 < length terms → signed_sum v (t + level) (segment 1 j terms) ≡ signed_sum v t (segment (suc level) j leaves)
+  pair_sum_at v t stand j h = elim ((slice_get_cases terms (j * 2)).1) [
+    | inl a ↦ elim ((slice_get_cases terms (j * 2 + 1)).1) [
+      | inl b ↦
+          ap (signed_sum v (t + level)) (segment_two terms j a.0 b.0 a.2 b.2) ∙ no_more _ _ _ _ (stand.each (j * 2) a.0 a.2) (stand.each (j * 2 + 1) b.0 b.2)
+          ∙ sym (ap (signed_sum v t) (segment-suc level j leaves) ∙ signed_sum-append v t (segment level (j * 2) leaves) (segment level (j * 2 + 1) leaves))
+      | inr last ↦
+          ap (signed_sum v (t + level)) (segment_one terms j a.0 a.2 last.0) ∙ only _ _ (stand.each (j * 2) a.0 a.2)
+          ∙ sym (ap (signed_sum v t) (segment-suc level j leaves) ∙ signed_sum-append v t (segment level (j * 2) leaves) (segment level (j * 2 + 1) leaves) ∙ ap (λ (xs : List Leaf). signed_sum v t (segment level (j * 2) leaves) +ℤ signed_sum v t xs) (ends j last.0) ∙ none _)
+    ]
+    | inr past ↦ absurd (omega (arith, past.0))
+  ]
 
   pub pair_negative : HaveSigns leaves terms level → (j : ℕ) → j * 2 < length terms → all_negative (segment 1 j terms) ≡ all_negative (segment (suc level) j leaves)
   pair_negative signs j h = elim ((slice_get_cases terms (j * 2)).1) [

@@ -7,13 +7,12 @@ use Rattle.net_graph.specs.declared.cell.Item.TheVariants.{Input, Constant, Add,
 use Rattle.net_graph.specs.declared.cell.Node.{Node}
 use Rattle.net_graph.specs.declared.name.Name.{Name}
 use Rattle.net_graph.specs.Cells.{NetView, cell_at}
-use Rattle.net_graph.specs.Control.{IsOfControl}
 use Rattle.net_graph.specs.Grow.{Extends, Adds, AddsRegister, IsUnbound, IsBoundTo, bound_to, IsNamedAs, named_as}
 use Rattle.net_graph.proofs.CellLemmas.{cell_at-there, same_cell}
 use Rattle.net_graph.proofs.GrowLemmas.{IsOfControl-later}
 use Rattle.net_graph.proofs.Lists.{slice_get_push_cases, slice_get-set_same, slice_get-set_other}
 use Rattle.net_graph.proofs.NetLemmas.{Extends-adds, Extends-register, cell_of_bound}
-use Rattle.pipeline_balance.specs.Shapes.{IsLinearItem, HasLinearItems, KeepsShapes}
+use Rattle.pipeline_balance.specs.Shapes.{IsLinearItem, KeepsShapes}
 
 pub IsLinearItem-later : (old new : List Cell) (item : Option Item) → Extends old new → IsLinearItem old item → IsLinearItem new item
 IsLinearItem-later old new None e p = tt

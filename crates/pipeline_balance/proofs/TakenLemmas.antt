@@ -13,11 +13,11 @@ use Rattle.net_graph.specs.Cells.{NetView, cell_at}
 use Rattle.net_graph.specs.Name.{is_control, is_control_kind}
 use Rattle.net_graph.specs.Cut.{Cut, IsCut}
 use Rattle.net_graph.specs.Run.{Values, IsRun}
-use Rattle.net_graph.specs.Grow.{Extends, Grows, Adds, AddsRegister, IsBoundTo}
+use Rattle.net_graph.specs.Grow.{Extends, Lengthens, Grows, Adds, AddsRegister, IsBoundTo}
 use Rattle.net_graph.proofs.CellLemmas.{cell_at-there}
 use Rattle.net_graph.proofs.GroupLemmas.{nameless_data}
 use Rattle.net_graph.proofs.NetLemmas.{IsRun-keeps, cell_of_added, Extends-register}
-use Rattle.net_graph.proofs.GrowLemmas.{IsOfControl-later, GrowsBut, GrowsBut-register, GrowsBut-adds, GrowsBut-unbound, Grows-bind, Extends-grown, cell_of_grown}
+use Rattle.net_graph.proofs.GrowLemmas.{IsOfControl-later, named_own, GrowsBut, GrowsBut-register, GrowsBut-adds, GrowsBut-unbound, Lengthens-bind, Grows-bind, Extends-grown, cell_of_grown}
 use Rattle.pipeline_balance.proofs.CostLemmas.{SameAdders-trans, SameAdders-register, SameAdders-plain, SameAdders-bind, SameNamed-adds, SameNamed-bind, windows-register, tables-register}
 use Rattle.pipeline_balance.proofs.NumberedLemmas.{free_register, free_adds, free_bind}
 use Rattle.pipeline_balance.proofs.ShapeLemmas.{KeepsShapes-trans, KeepsShapes-adds, KeepsShapes-register, KeepsShapes-bind}
@@ -125,8 +125,11 @@ module _ {old mid last new : NetView} {name : Name} {register next : Node} {widt
   no_control : is_control (record { group = old.group; name = Some name; width = width; item = None }) ≡ true → ⊥
   no_control is = let f : false ≡ true = sym (data_own (is_control_kind name.kind old.group) data_name) ∙ is in absurd (cc)
 
-  pub register_grows : Grows old new
-  register_grows = Grows-bind p wide b (λ is. absurd (no_control is))
+  pub register_lengthens : Lengthens old new
+  register_lengthens = Lengthens-bind p wide b (λ is. absurd (no_control is))
+
+  pub register_grows : 1 ≤ old.group → name.group ≡ old.group → Grows old new
+  register_grows some own = Grows-bind (named_own _ name refl own some) p wide b (λ is. absurd (no_control is))
 
   pub register_is : IsRegister new.cells register.place old.group name (cell_at old.cells from.place).width
   register_is = record { cell = _; there = cell_of_grown p b; of_group = refl; named = refl; wide = same; registered = (next, refl) }
@@ -148,15 +151,16 @@ pub IsTaken-gate : {old mid last new : NetView} {from : Stream} {name : Name} {o
 IsTaken-gate {old} {mid} {last} {new} {from} {name} {on} {register} {next} {width} wide data_group inside same data_name gate a m b =
     let mid_group : 1 ≤ mid.group = rw a.group data_group in
     let p : GrowsBut old last register (record { group = old.group; name = Some name; width = width; item = None }) = GrowsBut-adds (GrowsBut-register a) m refl (λ zero_group. absurd (omega arith)) in
-    let grows : Grows old new = register_grows from.node wide same data_name a p b in
+    let lengthens : Lengthens old new = register_lengthens from.node wide same data_name a p b in
     let bound_last = Extends-grown p wide b in
     record {
-      grows = grows;
+      lengthens = lengthens;
+      grows = register_grows from.node wide same data_name a p b data_group;
       register = register_is from.node wide same data_name a p b;
       holds = record {
         within = slice_get_within new.cells register.place _ (cell_of_grown p b);
         holds = λ cut law x v r.
-            let old_run = grows.extends.runs cut law x v r in
+            let old_run = lengthens.extends.runs cut law x v r in
             let own = register_obeys from.node wide same data_name a p b cut law x v r in
             let own_kept = register_kept from.node wide same data_name a p b cut law x v r in
             let from_kept : (t : ℕ) → cut false width (v t from.node.place) ≡ v t from.node.place = node_kept cut law old.cells x v old_run from.node.place width width inside same wide (omega arith) in
@@ -175,18 +179,19 @@ IsTaken-gate {old} {mid} {last} {new} {from} {name} {on} {register} {next} {widt
     }
 
 -- a register that takes a node's value at every tick
-pub IsTaken-plain : {old mid new : NetView} {from : Node} {name : Name} {register : Node} {width : ℕ} → 1 ≤ width → from.place < length old.cells → width ≡ (cell_at old.cells from.place).width → is_control_kind name.kind old.group ≡ false
+pub IsTaken-plain : {old mid new : NetView} {from : Node} {name : Name} {register : Node} {width : ℕ} → 1 ≤ width → 1 ≤ old.group → from.place < length old.cells → width ≡ (cell_at old.cells from.place).width → is_control_kind name.kind old.group ≡ false
     → AddsRegister old mid register name width → IsBoundTo mid new register from → IsTaken old new (record { node = from; period = 1; offset = 0 }) name register
-IsTaken-plain {old} {mid} {new} {from} {name} {register} {width} wide inside same data_name a b =
+IsTaken-plain {old} {mid} {new} {from} {name} {register} {width} wide data_group inside same data_name a b =
     let p : GrowsBut old mid register (record { group = old.group; name = Some name; width = width; item = None }) = GrowsBut-register a in
-    let grows : Grows old new = register_grows from wide same data_name a p b in
+    let lengthens : Lengthens old new = register_lengthens from wide same data_name a p b in
     record {
-      grows = grows;
+      lengthens = lengthens;
+      grows = register_grows from wide same data_name a p b data_group;
       register = register_is from wide same data_name a p b;
       holds = record {
         within = slice_get_within new.cells register.place _ (cell_of_grown p b);
         holds = λ cut law x v r.
-            let old_run = grows.extends.runs cut law x v r in
+            let old_run = lengthens.extends.runs cut law x v r in
             let own = register_obeys from wide same data_name a p b cut law x v r in
             let from_kept : (t : ℕ) → cut false width (v t from.place) ≡ v t from.place = node_kept cut law old.cells x v old_run from.place width width inside same wide (omega arith) in
             taken_last 1 0 (λ t. set_bit) (λ t. v t from.place) (λ t. v t register.place) own.0 (λ t. own.1 t ∙ from_kept t) (λ t tick. refl) (λ t off. absurd (off (t, omega arith)));

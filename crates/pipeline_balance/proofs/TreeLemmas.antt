@@ -22,7 +22,7 @@ use Rattle.net_graph.proofs.GrowLemmas.{Grows-refl, Grows-trans, Grows-data}
 use Rattle.net_graph.proofs.CountLemmas.{adders_plain}
 use Rattle.pipeline_balance.specs.Numbered.{IsRegister, IsCounted, IsTouched, LeavesFree, name_of}
 use Rattle.pipeline_balance.specs.Leaves.{delayed, signed_by, leaf_value, signed_sum, all_negative, held_sum, segment, IsLeaf, IsNegatable}
-use Rattle.pipeline_balance.specs.Tree.{AddsNode, IsLevel, level_count, count_to, SumsFit, AreRegisters, tree_adders, IsTree}
+use Rattle.pipeline_balance.specs.Tree.{AddsNode, IsLevel, level_count, count_to, SumsFit, SumsFitAt, AreRegisters, tree_adders, IsTree}
 use Rattle.pipeline_balance.specs.Costs.{SameNamed}
 use Rattle.pipeline_balance.specs.Shallow.{HasPlainLeaves, KeepsShallow, SumsLeaves}
 use Rattle.net_graph.specs.Depth.{IsPlain, IsShallow}
@@ -32,7 +32,7 @@ use Rattle.pipeline_balance.specs.Shapes.{KeepsShapes}
 use Rattle.pipeline_balance.proofs.ShapeLemmas.{KeepsShapes-refl, KeepsShapes-trans, KeepsShapes-adds}
 use Rattle.pipeline_balance.proofs.NumberedLemmas.{width-later, IsRegister-later, IsCounted-leaves, LeavesFree-refl, LeavesFree-trans, free_adds}
 use Rattle.pipeline_balance.proofs.PairLemmas.{IsNegatable-later}
-use Rattle.pipeline_balance.proofs.SegmentLemmas.{delayed_same, StandFor, HaveSigns, pair_sum, pair_negative, delayed-signed_by, level_count-zero, level_count-suc, count_to-mono, level_count_one, level_count-none, segment_leaf, segment_all}
+use Rattle.pipeline_balance.proofs.SegmentLemmas.{delayed_same, StandFor, StandAt, HaveSigns, pair_sum, pair_sum_at, pair_negative, delayed-signed_by, level_count-zero, level_count-suc, count_to-mono, level_count_one, level_count-none, segment_leaf, segment_all}
 
 -- ---- lists
 
@@ -81,6 +81,7 @@ pub record IsPart (old net : NetView) (leaves : List Leaf) (widths : List ℕ) (
   pub count : length terms ≡ level_count (length leaves) level
   pub signs : HaveSigns leaves terms level
   pub stand : (cut : Cut) → IsCut cut → (x : ℕ → ℤ) (v : Values) → IsRun cut net.cells x v → SumsFit cut v leaves widths level → StandFor v leaves terms level
+  pub stand_at : (cut : Cut) → IsCut cut → (x : ℕ → ℤ) (v : Values) → IsRun cut net.cells x v → (t : ℕ) → SumsFitAt cut v leaves widths level t → StandAt v leaves terms level t
   pub held : AreRegisters net.cells leaves widths level registers
   pub first : level ≡ 0 → terms ≡ leaves
   pub wide : (before : ℕ) → level ≡ suc before → (k : ℕ) (term : Leaf) → slice_get terms k ≡ Some term → (term.place ≡ 0) × ((cell_at net.cells term.node.place).width ≡ get_or widths (count_to (length leaves) before + k) 0)
@@ -123,6 +124,22 @@ module _ (old mid new : NetView) (leaves terms sums : List Leaf) (widths : List 
       (λ s. subst (λ (k : ℕ). cut false (get_or widths (k + j) 0) (held_sum v s (segment (suc level) j leaves)) ≡ held_sum v s (segment (suc level) j leaves)) (sym p.held.count) (each_fits s)) in
       (l.each j term is).holds cut law x v r t (subst (λ (z : ℤ). cut false width z ≡ z) (sym value) all_fit) ∙ value
 
+  -- and the sum of one tick's leaves
+  sum_held_at : (j : ℕ) (term : Leaf) → slice_get sums j ≡ Some term → (cut : Cut) → IsCut cut → (x : ℕ → ℤ) (v : Values) → IsRun cut new.cells x v → (t : ℕ) → SumsFitAt cut v leaves widths (suc level) t
+      → v (t + suc level) term.node.place ≡ held_sum v t (segment (suc level) j leaves)
+  sum_held_at j term is cut law x v r t fits =
+      let within : j < length sums = slice_get_within sums j term is in
+      let inside = pair_in j within in
+      let stand = p.stand_at cut law x v (l.grows.extends.runs cut law x v r) t (λ lower i less i_in. fits lower i (omega arith) i_in) in
+      let sign = pair_negative leaves terms level p.count p.signs j inside in
+      let value : held_sum v (t + level) (segment 1 j terms) ≡ held_sum v t (segment (suc level) j leaves) =
+      ap (λ (m : Bool). signed_by m (signed_sum v (t + level) (segment 1 j terms))) sign ∙ ap (signed_by (all_negative (segment (suc level) j leaves))) (pair_sum_at leaves terms level p.count v t stand j inside) in
+      let count = sum_count in
+      let own_fits = fits level j (omega arith) (omega arith) in
+      let here = subst (λ (k : ℕ). cut false (get_or widths (k + j) 0) (held_sum v t (segment (suc level) j leaves)) ≡ held_sum v t (segment (suc level) j leaves)) (sym p.held.count) own_fits in
+      let next : t + suc level ≡ suc (t + level) = omega arith in
+      ap (λ (s : ℕ). v s term.node.place) next ∙ (l.each j term is).holds cut law x v r (t + level) (subst (λ (z : ℤ). cut false (get_or widths (length registers + j) 0) z ≡ z) (sym value) here) ∙ value
+
   sum_negative : HaveSigns leaves sums (suc level)
   sum_negative = record {
     each = λ j term is. (l.each j term is).negative ∙ pair_negative leaves terms level p.count p.signs j (pair_in j (slice_get_within sums j term is));
@@ -134,6 +151,14 @@ module _ (old mid new : NetView) (leaves terms sums : List Leaf) (widths : List 
         let m = all_negative (segment (suc level) j leaves) in
         ap (λ (b : Bool). signed_by b (v t term.node.place *ℤ pos (2 ^ term.place))) (sum_negative.each j term is) ∙ ap (signed_by m) (times_one (v t term.node.place) term.place (l.each j term is).place ∙ sum_held j term is cut law x v r fits t)
         ∙ delayed-signed_by m (suc level) t _ ∙ delayed_same (suc level) t _ _ (λ s. signed_by_twice m (signed_sum v s (segment (suc level) j leaves)));
+  }
+
+  sum_stands_at : (cut : Cut) → IsCut cut → (x : ℕ → ℤ) (v : Values) → IsRun cut new.cells x v → (t : ℕ) → SumsFitAt cut v leaves widths (suc level) t → StandAt v leaves sums (suc level) t
+  sum_stands_at cut law x v r t fits = record {
+    each = λ j term is.
+        let m = all_negative (segment (suc level) j leaves) in
+        ap (λ (b : Bool). signed_by b (v (t + suc level) term.node.place *ℤ pos (2 ^ term.place))) (sum_negative.each j term is)
+        ∙ ap (signed_by m) (times_one (v (t + suc level) term.node.place) term.place (l.each j term is).place ∙ sum_held_at j term is cut law x v r t fits) ∙ signed_by_twice m (signed_sum v t (segment (suc level) j leaves));
   }
 
   sum_is_leaf : (k : ℕ) (term : Leaf) → slice_get sums k ≡ Some term → IsLeaf new.cells term
@@ -164,17 +189,17 @@ module _ (old mid new : NetView) (leaves terms sums : List Leaf) (widths : List 
         rw (after.1, ← found.2) here
   ]
 
-  more_held : (cut : Cut) → IsCut cut → (x : ℕ → ℤ) (v : Values) → IsRun cut new.cells x v → SumsFit cut v leaves widths (suc level) → (lower j : ℕ) (register : Node) → lower < suc level → j < level_count (length leaves) (suc lower)
-      → slice_get (registers ++ map (λ (term : Leaf). term.node) sums) (count_to (length leaves) lower + j) ≡ Some register
-      → (t : ℕ) → v t register.place ≡ delayed (suc lower) t (λ s. held_sum v s (segment (suc lower) j leaves))
-  more_held cut law x v r fits lower j register h within is t = elim (slice_get-append_cases registers _ _ register is) [
+  -- a register of a level is one of the levels before, or holds a new sum
+  more_found : (lower j : ℕ) (register : Node) → lower < suc level → j < level_count (length leaves) (suc lower) → slice_get (registers ++ map (λ (term : Leaf). term.node) sums) (count_to (length leaves) lower + j) ≡ Some register
+      → ((lower < level) × (slice_get registers (count_to (length leaves) lower + j) ≡ Some register)) ⊎ ((lower ≡ level) × (term : Leaf) × (slice_get sums j ≡ Some term) × (term.node ≡ register))
+  more_found lower j register h within is = elim (slice_get-append_cases registers _ _ register is) [
     | inl before ↦ elim (cases_eq lower level) [
       | inl same ↦
           let c = p.held.count in
           let b = before.0 in
           let e : count_to (length leaves) lower ≡ count_to (length leaves) level = ap (count_to (length leaves)) same in
           absurd (omega arith)
-      | inr other ↦ p.held.holds cut law x v (l.grows.extends.runs cut law x v r) (SumsFit-less cut v leaves widths level (suc level) (omega arith) fits) lower j register (omega arith) within before.1 t
+      | inr other ↦ inl (omega arith, before.1)
     ]
     | inr after ↦
         let found = slice_get_node sums after.0 register after.2 in
@@ -184,12 +209,26 @@ module _ (old mid new : NetView) (leaves terms sums : List Leaf) (widths : List 
           | inl same ↦
               let f : count_to (length leaves) lower ≡ count_to (length leaves) level = ap (count_to (length leaves)) same in
               let place : after.0 ≡ j = omega arith in
-              let held = sum_held after.0 found.0 found.1 cut law x v r fits t in
-              ap (λ (n : Node). v t n.place) (sym found.2) ∙ held ∙ rw (place, same) refl
+              inr (same, found.0, subst (λ (k : ℕ). slice_get sums k ≡ Some found.0) place found.1, found.2)
           | inr other ↦
               let m : count_to (length leaves) (suc lower) ≤ count_to (length leaves) level = count_to-mono (length leaves) (suc lower) level (omega arith) in
               absurd (omega arith)
         ]
+  ]
+
+  more_held : (cut : Cut) → IsCut cut → (x : ℕ → ℤ) (v : Values) → IsRun cut new.cells x v → SumsFit cut v leaves widths (suc level) → (lower j : ℕ) (register : Node) → lower < suc level → j < level_count (length leaves) (suc lower)
+      → slice_get (registers ++ map (λ (term : Leaf). term.node) sums) (count_to (length leaves) lower + j) ≡ Some register
+      → (t : ℕ) → v t register.place ≡ delayed (suc lower) t (λ s. held_sum v s (segment (suc lower) j leaves))
+  more_held cut law x v r fits lower j register h within is t = elim (more_found lower j register h within is) [
+    | inl before ↦ p.held.holds cut law x v (l.grows.extends.runs cut law x v r) (SumsFit-less cut v leaves widths level (suc level) (omega arith) fits) lower j register before.0 within before.1 t
+    | inr after ↦ ap (λ (n : Node). v t n.place) (sym after.3) ∙ sum_held j after.1 after.2 cut law x v r fits t ∙ rw after.0 refl
+  ]
+
+  more_held_at : (cut : Cut) → IsCut cut → (x : ℕ → ℤ) (v : Values) → IsRun cut new.cells x v → (t : ℕ) → SumsFitAt cut v leaves widths (suc level) t → (lower j : ℕ) (register : Node) → lower < suc level → j < level_count (length leaves) (suc lower)
+      → slice_get (registers ++ map (λ (term : Leaf). term.node) sums) (count_to (length leaves) lower + j) ≡ Some register → v (t + suc lower) register.place ≡ held_sum v t (segment (suc lower) j leaves)
+  more_held_at cut law x v r t fits lower j register h within is = elim (more_found lower j register h within is) [
+    | inl before ↦ p.held.holds_at cut law x v (l.grows.extends.runs cut law x v r) t (λ under i less i_in. fits under i (omega arith) i_in) lower j register before.0 within before.1
+    | inr after ↦ ap (λ (n : Node). v (t + suc lower) n.place) (sym after.3) ∙ ap (λ (k : ℕ). v (t + suc k) after.1.node.place) after.0 ∙ sum_held_at j after.1 after.2 cut law x v r t fits ∙ rw after.0 refl
   ]
 
   -- in the old net's group
@@ -227,7 +266,8 @@ module _ (old mid new : NetView) (leaves terms sums : List Leaf) (widths : List 
     count = sum_count;
     signs = sum_negative;
     stand = sum_stands;
-    held = record { count = more_count; each_wide = more_wide; holds = more_held };
+    stand_at = sum_stands_at;
+    held = record { count = more_count; each_wide = more_wide; holds = more_held; holds_at = more_held_at };
     first = λ e. absurd (omega arith);
     wide = λ before e k term is.
         let same : before ≡ level = omega arith in
@@ -257,7 +297,10 @@ IsPart-start net leaves widths h = record {
   count = sym (level_count-zero (length leaves));
   signs = record { each = λ j leaf is. sym (ap all_negative (segment_leaf leaves j leaf is) ∙ just leaf.negative) };
   stand = λ cut law x v r fits. record { each = λ j leaf is t. sym (ap (signed_sum v t) (segment_leaf leaves j leaf is) ∙ alone (leaf_value v t leaf)) };
-  held = record { count = refl; each_wide = λ k register is. absurd (cc); holds = λ cut law x v r fits lower j register h. absurd (omega arith) };
+  stand_at = λ cut law x v r t fits. record {
+    each = λ j leaf is. let same : t + 0 ≡ t = omega arith in ap (λ (s : ℕ). leaf_value v s leaf) same ∙ sym (ap (signed_sum v t) (segment_leaf leaves j leaf is) ∙ alone (leaf_value v t leaf));
+  };
+  held = record { count = refl; each_wide = λ k register is. absurd (cc); holds = λ cut law x v r fits lower j register h. absurd (omega arith); holds_at = λ cut law x v r t fits lower j register h. absurd (omega arith) };
   first = λ e. refl;
   wide = λ before e. absurd (omega arith);
   adders = refl;
@@ -294,6 +337,7 @@ AreRegisters-later {old} {new} h e = record {
       let inside = was.0 in
       (omega arith, width-later old new register.place e was.0 ∙ was.1);
   holds = λ cut law x v r. h.holds cut law x v (e.runs cut law x v r);
+  holds_at = λ cut law x v r. h.holds_at cut law x v (e.runs cut law x v r);
 }
 
 module _ (old net : NetView) (leaves terms : List Leaf) (widths : List ℕ) (levels : ℕ) (registers : List Node) (p : IsPart old net leaves widths levels terms registers) (deep : length leaves ≤ 2 ^ levels) (some : 1 ≤ length leaves) where
@@ -347,6 +391,8 @@ module _ (old net : NetView) (leaves terms : List Leaf) (widths : List ℕ) (lev
     held = AreRegisters-later p.held n.grows.extends;
     sums = λ cut law x v r fits t.
         n.computes.holds cut law x v r t ∙ (p.stand cut law x v (n.grows.extends.runs cut law x v r) fits).each 0 term is t ∙ delayed_same levels t _ _ (λ s. ap (signed_sum v s) (segment_all levels leaves deep));
+    sums_at = λ cut law x v r t fits.
+        n.computes.holds cut law x v r (t + levels) ∙ (p.stand_at cut law x v (n.grows.extends.runs cut law x v r) t fits).each 0 term is ∙ ap (signed_sum v t) (segment_all levels leaves deep);
     adders =
         let now : adders_in old.group new.cells ≡ adders_in old.group net.cells + one_if term.negative = subst (λ (g : ℕ). adders_in g new.cells ≡ adders_in g net.cells + one_if term.negative) p.grows.group n.counts in
         let sign : one_if term.negative ≡ one_if (all_negative leaves) = ap one_if (root_sign term is) in
@@ -376,9 +422,10 @@ IsTree-none old new leaves widths levels root data_group empty a = rw empty (rec
     count = sym (no_registers levels);
     each_wide = λ k register is. absurd (cc);
     holds = λ cut law x v r fits lower j register h within. let e = level_count-none (suc lower) in absurd (omega arith);
+    holds_at = λ cut law x v r t fits lower j register h within. let e = level_count-none (suc lower) in absurd (omega arith);
   };
-  sums = λ cut law x v r fits t.
-      r.each root.place _ (cell_of_added a) t ∙ ap (λ (c : Bool). cut c 1 (wrap 1 (pos 0))) (nameless_data old.group true data_group) ∙ ap (cut false 1) (wrap_zero 1 (omega arith)) ∙ law.fitting false 1 (pos 0) (omega arith) (FitsWidth-zero 1) ∙ sym (delayed_nothing levels t);
+  sums = λ cut law x v r fits t. zero_root cut law x v r t ∙ sym (delayed_nothing levels t);
+  sums_at = λ cut law x v r t fits. zero_root cut law x v r (t + levels);
   adders = adders_plain old.group a refl ∙ omega arith;
   shallow = record { shallow = λ s plain. shallow_same old.group (Grows-data data_group a refl) (adders_plain old.group a refl) s; linear = KeepsShapes-adds a tt };
   same_named = SameNamed-adds a;
@@ -390,6 +437,9 @@ IsTree-none old new leaves widths levels root data_group empty a = rw empty (rec
   names = record { free = λ name other f. free_adds a name f };
 })
   where
+    zero_root : (cut : Cut) → IsCut cut → (x : ℕ → ℤ) (v : Values) → IsRun cut new.cells x v → (t : ℕ) → v t root.place ≡ pos 0
+    zero_root cut law x v r t = r.each root.place _ (cell_of_added a) t ∙ ap (λ (c : Bool). cut c 1 (wrap 1 (pos 0))) (nameless_data old.group true data_group) ∙ ap (cut false 1) (wrap_zero 1 (omega arith)) ∙ law.fitting false 1 (pos 0) (omega arith) (FitsWidth-zero 1)
+
     no_registers : (levels : ℕ) → count_to 0 levels ≡ 0
     no_registers zero = refl
     no_registers (suc levels) = let e = level_count-none (suc levels) in let f = no_registers levels in omega arith

@@ -1,5 +1,5 @@
 -- A window, register by register.
-use Rattle.std.proofs.Common.{Bool, true, false, ◌&&◌, eq-eqb, ◌≡◌, ℕ, zero, suc, ◌+◌, ◌<◌, ◌≤◌, List, [], ◌∷◌, ◌++◌, length, length-append, refl, ◌∙◌, ap, arith, Some, Option, slice_get, inl, inr, subst}
+use Rattle.std.proofs.Common.{Bool, true, false, ◌&&◌, eq-eqb, ◌≡◌, ℕ, zero, suc, ◌+◌, ◌<◌, ◌≤◌, List, [], ◌∷◌, ◌++◌, length, length-append, refl, ◌∙◌, ap, arith, Some, Option, slice_get, inl, inr, subst, sym}
 use Rattle.net_graph.specs.declared.cell.Cell.{Cell}
 use Rattle.net_graph.specs.declared.cell.Node.{Node}
 use Rattle.net_graph.specs.declared.cell.Stream.{Stream}
@@ -78,7 +78,8 @@ IsTaken-used {old} {new} {from} {name} {to} t f = f.none to.place t.register.cel
 pub WindowSoFar-step : {old net new : NetView} {from : Stream} {gate : Option Node} {last to : Node} {nodes : List Node} {group number : ℕ} → 1 ≤ from.period → group ≡ old.group → WindowSoFar old net from gate last nodes → IsLeastFree net.cells group Window number
     → IsTaken net new (record { node = last; period = from.period; offset = from.offset }) (name_of group Window number) to → WindowSoFar old new from gate to (nodes ++ to ∷ [])
 WindowSoFar-step {old} {net} {new} {from} {gate} {last} {to} {nodes} {group} {number} positive same p least t =
-    let e = t.grows.extends in
+    let grown : Grows net new = t.grows (same ∙ sym p.grows.group) in
+    let e = t.lengthens.extends in
     let count : length (nodes ++ to ∷ []) ≡ length nodes + 1 = length-append nodes (to ∷ []) in
     let next : suc (length nodes) ≡ length (nodes ++ to ∷ []) = omega (arith, count) in
     let here : Holds new.cells from (length nodes) to = next_holds (length nodes) positive e p.last_is t.holds in
@@ -87,7 +88,7 @@ WindowSoFar-step {old} {net} {new} {from} {gate} {last} {to} {nodes} {group} {nu
     let name_is : (first : ℕ) → IsCounted old.cells old.group Window first → name_of group Window number ≡ name_of old.group Window (first + length nodes) =
     λ first c. ap (λ (g : ℕ). name_of g Window number) same ∙ ap (λ (n : ℕ). name_of old.group Window n) (number_is first c) in
     record {
-      grows = Grows-trans p.grows t.grows;
+      grows = Grows-trans p.grows grown;
       gated = IsGate-later net.cells new.cells from.period from.offset gate e p.gated;
       within = t.holds.within;
       wide = ap (λ (c : Cell). c.width) (cell_at-is new.cells to.place t.register.cell t.register.there) ∙ t.register.wide ∙ p.wide;

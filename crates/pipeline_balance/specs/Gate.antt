@@ -1,6 +1,6 @@
 -- Bits that tell ticks, and registers that take a node's value at these ticks.
-use Rattle.std.specs.Prelude.{◌≡◌, ℕ, zero, suc, ◌+◌, ◌*◌, ◌<◌, ◌≤◌, ℤ, pos, List, length, Option, Some, None, slice_get, true}
-use Rattle.mr_values.specs.Width.{set_bit}
+use Rattle.std.specs.Prelude.{◌≡◌, ℕ, zero, suc, ◌+◌, ◌*◌, ◌<◌, ◌≤◌, ℤ, pos, ◌-ℤ◌, List, length, Option, Some, None, slice_get, true}
+use Rattle.mr_values.specs.Width.{set_bit, wrap}
 use Rattle.mr_values.specs.Sequence.{Sequence}
 use Rattle.net_graph.specs.declared.cell.Cell.{Cell}
 use Rattle.net_graph.specs.declared.cell.Node.{Node}
@@ -10,7 +10,7 @@ use Rattle.net_graph.specs.declared.name.NameKind.TheVariants.{Control, Window}
 use Rattle.net_graph.specs.Cells.{NetView, cell_at}
 use Rattle.net_graph.specs.Cut.{Cut, IsCut}
 use Rattle.net_graph.specs.Run.{Values, IsRun, HasShape}
-use Rattle.net_graph.specs.Grow.{Grows}
+use Rattle.net_graph.specs.Grow.{Lengthens, Grows}
 use Rattle.net_graph.specs.Control.{IsOfControl}
 use Rattle.net_graph.specs.Count.{one_if, is_window, is_table, has_kind, windows_in, tables_in}
 use Rattle.pipeline_balance.specs.Numbered.{IsRegister, IsCounted, IsTouched, LeavesFree, name_of}
@@ -40,6 +40,15 @@ pub record IsCounter (old new : NetView) (ticks : ℕ → Type 0) (bit : Node) :
   pub adders : SameAdders old.cells new.cells
   pub named : SameNamed old.cells new.cells
   pub linear : KeepsShapes old.cells new.cells
+
+-- In every run, however it is cut, the control node has at each tick to `first` the number of the tick, and i ticks after
+-- first + k * period, with i from 1 to the period, the number first + i - period, in this width.
+pub record IsCountOf (cells : List Cell) (period first width : ℕ) (count : Node) : Type 0 where
+  pub within : count.place < length cells
+  pub control : IsOfControl cells count.place
+  pub early : (cut : Cut) → IsCut cut → (inputs : ℕ → ℤ) (values : Values) → IsRun cut cells inputs values → (t : ℕ) → t ≤ first → values t count.place ≡ wrap width (pos t)
+  pub again : (cut : Cut) → IsCut cut → (inputs : ℕ → ℤ) (values : Values) → IsRun cut cells inputs values → (k i : ℕ) → 1 ≤ i → i ≤ period
+      → values (first + k * period + i) count.place ≡ wrap width (pos (first + i) -ℤ pos period)
 
 -- the new net has a register of control with the least number of bits, at least 1, that number 0 to `last`
 pub record AddsCount (old new : List Cell) (last : ℕ) : Type 0 where
@@ -89,9 +98,11 @@ pub record Holds (cells : List Cell) (from : Stream) (age : ℕ) (to : Node) : T
   pub within : to.place < length cells
   pub holds : (cut : Cut) → IsCut cut → (inputs : ℕ → ℤ) (values : Values) → IsRun cut cells inputs values → (t taken : ℕ) → HasTaken from.period from.offset taken t → values t to.place ≡ taken_value (shown values from) taken age
 
--- the new net has such a register, as wide as the stream's node, of the net's group and of this name
+-- The new net has such a register, as wide as the stream's node, of the net's group and of this name. It grows as by a stage where the name is
+-- of that group too.
 pub record IsTaken (old new : NetView) (from : Stream) (name : Name) (to : Node) : Type 0 where
-  pub grows : Grows old new
+  pub lengthens : Lengthens old new
+  pub grows : name.group ≡ old.group → Grows old new
   pub register : IsRegister new.cells to.place old.group name (cell_at old.cells from.node.place).width
   pub holds : Holds new.cells from 0 to
   pub names : LeavesFree old.cells new.cells (λ other. other ≡ name)

@@ -7,3 +7,4 @@ pub mod Phase
 pub mod Shallow
 pub mod Shapes
 pub mod Tree
+pub mod Ticks

@@ -66,6 +66,12 @@ pub record IsSelection (old new : NetView) (bits nodes : List Node) (count width
   pub named : SameNamed old.cells new.cells
   pub linear : ((phase : ℕ) (bit : Node) → slice_get bits phase ≡ Some bit → IsOfControl old.cells bit.place) → KeepsShapes old.cells new.cells
 
+-- such a selection, with the value 0 at each tick where none of the first `count` bits is set
+pub record IsSelectionOrZero (old new : NetView) (bits nodes : List Node) (count width : ℕ) (to : Node) : Type 0 where
+  pub selection : IsSelection old new bits nodes count width to
+  pub rests : (cut : Cut) → IsCut cut → (inputs : ℕ → ℤ) (values : Values) → IsRun cut new.cells inputs values → (t : ℕ)
+      → ((phase : ℕ) (bit : Node) → phase < count → slice_get bits phase ≡ Some bit → values t bit.place ≡ pos 0) → values t to.place ≡ pos 0
+
 -- The node `to` of the new net, as wide as `from`, has in every run, however it is cut, the value of `from` so many ticks before, by
 -- as many registers with the next free numbers.
 pub record IsDelay (old new : NetView) (from : Node) (ticks : ℕ) (to : Node) : Type 0 where

@@ -98,20 +98,30 @@ SumsFit cut values leaves widths levels =
     (level j : ℕ) → level < levels → j < level_count (length leaves) (suc level) → (t : ℕ)
     → cut false (get_or widths (count_to (length leaves) level + j) 0) (held_sum values t (segment (suc level) j leaves)) ≡ held_sum values t (segment (suc level) j leaves)
 
+-- it keeps them where the leaves are those of one tick
+abbrev pub SumsFitAt : Cut → Values → List Leaf → List ℕ → ℕ → ℕ → Type 0
+SumsFitAt cut values leaves widths levels t =
+    (level j : ℕ) → level < levels → j < level_count (length leaves) (suc level)
+    → cut false (get_or widths (count_to (length leaves) level + j) 0) (held_sum values t (segment (suc level) j leaves)) ≡ held_sum values t (segment (suc level) j leaves)
+
 -- The registers stand level by level, each level from the left. Each holds the sum of the leaves under it, as many ticks before as its level says.
+-- Where the sums of one tick fit, each holds that of this tick, whatever the leaves are at others.
 pub record AreRegisters (cells : List Cell) (leaves : List Leaf) (widths : List ℕ) (levels : ℕ) (registers : List Node) : Type 0 where
   pub count : length registers ≡ count_to (length leaves) levels
   pub each_wide : (k : ℕ) (register : Node) → slice_get registers k ≡ Some register → (register.place < length cells) × ((cell_at cells register.place).width ≡ get_or widths k 0)
   pub holds : (cut : Cut) → IsCut cut → (inputs : ℕ → ℤ) (values : Values) → IsRun cut cells inputs values → SumsFit cut values leaves widths levels
       → (level j : ℕ) (register : Node) → level < levels → j < level_count (length leaves) (suc level) → slice_get registers (count_to (length leaves) level + j) ≡ Some register
       → (t : ℕ) → values t register.place ≡ delayed (suc level) t (λ s. held_sum values s (segment (suc level) j leaves))
+  pub holds_at : (cut : Cut) → IsCut cut → (inputs : ℕ → ℤ) (values : Values) → IsRun cut cells inputs values → (t : ℕ) → SumsFitAt cut values leaves widths levels t
+      → (level j : ℕ) (register : Node) → level < levels → j < level_count (length leaves) (suc level) → slice_get registers (count_to (length leaves) level + j) ≡ Some register
+      → values (t + suc level) register.place ≡ held_sum values t (segment (suc level) j leaves)
 
 -- how many adders a tree has: one fewer than leaves, and one more where all are negative
 abbrev pub tree_adders : List Leaf → ℕ
 tree_adders [] = 0
 tree_adders (leaf ∷ leaves) = if all_negative (leaf ∷ leaves) then suc (length leaves) else length leaves
 
--- The root is the signed sum of all leaves, `levels` ticks before, where the sums of the registers fit. No adder stands before another
+-- The root is the signed sum of all leaves, `levels` ticks before, where the sums of the registers fit, or where those of that tick do. No adder stands before another
 -- without a register between them.
 pub record IsTree (old new : NetView) (leaves : List Leaf) (widths : List ℕ) (levels : ℕ) (registers : List Node) (root : Node) : Type 0 where
   pub grows : Grows old new
@@ -119,6 +129,8 @@ pub record IsTree (old new : NetView) (leaves : List Leaf) (widths : List ℕ) (
   pub held : AreRegisters new.cells leaves widths levels registers
   pub sums : (cut : Cut) → IsCut cut → (inputs : ℕ → ℤ) (values : Values) → IsRun cut new.cells inputs values → SumsFit cut values leaves widths levels
       → (t : ℕ) → values t root.place ≡ delayed levels t (λ s. signed_sum values s leaves)
+  pub sums_at : (cut : Cut) → IsCut cut → (inputs : ℕ → ℤ) (values : Values) → IsRun cut new.cells inputs values → (t : ℕ) → SumsFitAt cut values leaves widths levels t
+      → values (t + levels) root.place ≡ signed_sum values t leaves
   pub adders : adders_in old.group new.cells ≡ adders_in old.group old.cells + tree_adders leaves
   pub shallow : SumsLeaves old new leaves
   pub same_named : SameNamed old.cells new.cells

@@ -2,7 +2,7 @@
 
 ghost use Rattle.std.specs.Prelude.{◌≡◌, ℕ, ◌+◌, ◌-◌, ◌^◌, ◌<◌, ◌≤◌, ◌-ℤ◌, pos, max, length, IfOk};
 ghost use Rattle.net_graph.specs.Grow.{Extends};
-ghost use Rattle.pipeline_balance.specs.Gate.{IsTickOf, IsCounter, AddsCount, AddsGate};
+ghost use Rattle.pipeline_balance.specs.Gate.{IsTickOf, IsCounter, IsCountOf, AddsCount, AddsGate};
 ghost use Rattle.pipeline_balance.specs.Bits.{IsBitsFor};
 
 use crate::numbering::next_register;
@@ -37,11 +37,21 @@ fn last_of(period: u64, first: u64) -> u64
     first.max(period - 1)
 }
 
-/// The bit of `counter`, in a net whose group is that of control.
-pub(crate) fn count_ticks(net: &mut Net, period: u64, first: u64) -> Result<Node, Memory>
+/// A register that counts ticks, its width in bits, and the bit that is set where it has the last number of the count.
+#[derive(Clone, Copy)]
+pub(crate) struct Count {
+    pub(crate) register: Node,
+    pub(crate) width: u8,
+    pub(crate) done: Node,
+}
+
+/// The register that counts to `first`, and from a period below it again, in a net whose group is that of control.
+pub(crate) fn count_up(net: &mut Net, period: u64, first: u64) -> Result<Count, Memory>
     requires positive { 1 ≤ period }
     requires control { net.old.group ≡ 0 }
-    ensures ok { IfOk result (IsCounter net.old net.new (IsTickOf period first)) }
+    ensures ok { IfOk result (λ c. IsCounter net.old net.new (IsTickOf period first) c.done) }
+    ensures counts { IfOk result (λ c. IsCountOf net.new.cells period first c.width c.register) }
+    ensures width { IfOk result (λ c. IsBitsFor (max first (period - 1)) c.width) }
     ensures count { IfOk result (λ _. AddsCount net.old.cells net.new.cells (max first (period - 1))) }
     ensures extends { Extends net.old.cells net.new.cells }
     ensures group { net.new.group ≡ net.old.group }
@@ -56,7 +66,24 @@ pub(crate) fn count_ticks(net: &mut Net, period: u64, first: u64) -> Result<Node
     let more = net.add(count, one, width)?;
     let next = net.mux(done, restart, more, width)?;
     net.bind(count, next);
-    Ok(done)
+    Ok(Count {
+        register: count,
+        width,
+        done,
+    })
+}
+
+/// The bit of `counter`, in a net whose group is that of control.
+pub(crate) fn count_ticks(net: &mut Net, period: u64, first: u64) -> Result<Node, Memory>
+    requires positive { 1 ≤ period }
+    requires control { net.old.group ≡ 0 }
+    ensures ok { IfOk result (IsCounter net.old net.new (IsTickOf period first)) }
+    ensures count { IfOk result (λ _. AddsCount net.old.cells net.new.cells (max first (period - 1))) }
+    ensures extends { Extends net.old.cells net.new.cells }
+    ensures group { net.new.group ≡ net.old.group }
+{
+    let count = count_up(net, period, first)?;
+    Ok(count.done)
 }
 
 /// A control bit that is 1 exactly at the ticks `first + k * period`: a register of the least width counts the ticks to `first`,

@@ -6,3 +6,4 @@ pub mod Costs
 pub mod Accepted
 pub mod Views
 pub mod StageCosts
+pub mod FaultLines

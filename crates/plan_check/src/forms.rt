@@ -94,8 +94,9 @@ pub(crate) fn width_of(flow: PlanFlow) -> u64
     u64::from(least_width(flow.low, flow.high))
 }
 
+/// Whether the taps read backwards are the taps.
 #[tactic(auto, using(crate::proofs::Mirrors::symmetric_more, crate::proofs::Mirrors::symmetric_fails, crate::proofs::Mirrors::symmetric_all))]
-fn is_symmetric(taps: &[i64]) -> bool
+pub fn is_symmetric(taps: &[i64]) -> bool
     ensures { result ≡ is_symmetric taps.now }
 {
     for (index, tap) in taps.iter().enumerate() {

@@ -17,4 +17,5 @@ mod terms;
 pub use accept::check_plan;
 pub use facts::{Facts, GroupFacts};
 pub use fault::{CostWhich, LimitWhich, PlanFault};
+pub use forms::is_symmetric;
 pub use group::{FirFilter, PlanGroup, split_group};

@@ -18,8 +18,14 @@ use Rattle.verilog_text.specs.Order.{unplaced, IsSameButPlaces}
 use Rattle.mr_values.specs.Files.{Files}
 use Rattle.mr_values.specs.Host.{HostState}
 use Rattle.mr_values.specs.declared.host.HostCall.TheVariants.{OpenInput, Next, OpenOutput, Put}
-use Rattle.command_files.specs.declared.fault.Fault.{Fault}
-use Rattle.command_files.specs.declared.fault.Fault.TheVariants.{HostFault, Memory}
+use Rattle.command_files.specs.declared.fault.CommandFault.{CommandFault}
+use Rattle.command_files.specs.declared.fault.CommandFault.TheVariants.{HostFault, Memory}
+use Rattle.command_files.specs.declared.fault.WriteFault.{WriteFault}
+use Rattle.command_files.specs.declared.fault.WriteFault.TheVariants as writing
+use Rattle.command_files.specs.Conversions.{fault_of_writing, result_of_writing}
+use Rattle.command_files.specs.Reading.{IsReadPlan}
+use Rattle.command_files.proofs.EndedPlan.{ended_of}
+use Rattle.mr_values.specs.declared.plan.Plan.{Plan}
 use Rattle.command_files.specs.WholeFiles.{WriteAnswer, IsEmptied, HoldsFront, HoldsPart}
 use Rattle.std.specs.Prelude.{All}
 use Rattle.mr_values.specs.declared.plan.Element.{Element}
@@ -80,33 +86,27 @@ outputs_of plan files text lines accepted file_is is_plan built chain is_chain w
   bounded = bounded_by (size accepted.plan.width) (size accepted.plan.ticks) accepted.plan.elements accepted.facts built ((passes_of accepted.plan is_plan.passes).limits.elements) is_plan.are_facts;
 }
 
--- the plan was read, and then nothing was read again
-pub read_to_end : (plan : List ℕ) (old read now : HostState) → AreReadToEnd plan old read → now.input ≡ read.input → now.place ≡ read.place → AreReadToEnd plan old now
-read_to_end plan old read now ended same_input same_place = record {
-  text = ended.text;
-  says = ended.says;
-  input = same_input ∙ ended.input;
-  end = rw (same_input, same_place) ended.end;
-}
-
 -- the write of TEXT failed
-pub first_write : (plan text report : List ℕ) (text_bytes report_bytes : List ℕ) (fault : Fault) (old read new : HostState) → AreOutputs plan old.files text_bytes report_bytes → read.files ≡ old.files
-    → WriteAnswer text text_bytes (Err fault) read.files new.files → CompileEnds plan text report (Err fault) old new
-first_write plan text report text_bytes report_bytes (HostFault OpenInput) old read new outputs files answer = absurd answer
-first_write plan text report text_bytes report_bytes (HostFault Next) old read new outputs files answer = absurd answer
-first_write plan text report text_bytes report_bytes (HostFault OpenOutput) old read new outputs files answer = (text_bytes, report_bytes, outputs, inl (subst (λ before. IsEmptied text before new.files) files answer))
-first_write plan text report text_bytes report_bytes (HostFault Put) old read new outputs files answer = (text_bytes, report_bytes, outputs, inl (subst (λ before. HoldsFront text text_bytes before new.files) files answer))
-first_write plan text report text_bytes report_bytes Memory old read new outputs files answer = inr (text_bytes, report_bytes, outputs, inl (subst (λ before. HoldsPart text text_bytes before new.files) files answer))
-first_write plan text report text_bytes report_bytes _ old read new outputs files answer = absurd answer
+pub first_write : (plan text report : List ℕ) (text_bytes report_bytes : List ℕ) (fault : WriteFault) (old read new : HostState) → AreOutputs plan old.files text_bytes report_bytes → read.files ≡ old.files
+    → WriteAnswer text text_bytes (Err fault) read.files new.files → CompileEnds plan text report (Err (fault_of_writing fault)) old new
+first_write plan text report text_bytes report_bytes (writing.HostFault OpenInput) old read new outputs files answer = absurd answer
+first_write plan text report text_bytes report_bytes (writing.HostFault Next) old read new outputs files answer = absurd answer
+first_write plan text report text_bytes report_bytes (writing.HostFault OpenOutput) old read new outputs files answer = (text_bytes, report_bytes, outputs, inl (subst (λ before. IsEmptied text before new.files) files answer))
+first_write plan text report text_bytes report_bytes (writing.HostFault Put) old read new outputs files answer = (text_bytes, report_bytes, outputs, inl (subst (λ before. HoldsFront text text_bytes before new.files) files answer))
+first_write plan text report text_bytes report_bytes writing.Memory old read new outputs files answer = inr (text_bytes, report_bytes, outputs, inl (subst (λ before. HoldsPart text text_bytes before new.files) files answer))
 
 -- REPORT is written after TEXT
-pub last_write : (plan text report : List ℕ) (text_bytes report_bytes : List ℕ) (result : Result (Unit {0}) Fault) (old middle new : HostState) → AreOutputs plan old.files text_bytes report_bytes → AreReadToEnd plan old new
-    → middle.files ≡ insert old.files text text_bytes → WriteAnswer report report_bytes result middle.files new.files → CompileEnds plan text report result old new
-last_write plan text report text_bytes report_bytes (Ok done) old middle new outputs ended written answer =
-    record { text_bytes = text_bytes; report_bytes = report_bytes; outputs = outputs; ended = ended; written = answer ∙ ap (λ files. insert files report report_bytes) written }
-last_write plan text report text_bytes report_bytes (Err (HostFault OpenInput)) old middle new outputs ended written answer = absurd answer
-last_write plan text report text_bytes report_bytes (Err (HostFault Next)) old middle new outputs ended written answer = absurd answer
-last_write plan text report text_bytes report_bytes (Err (HostFault OpenOutput)) old middle new outputs ended written answer = (text_bytes, report_bytes, outputs, inr (subst (λ before. IsEmptied report before new.files) written answer))
-last_write plan text report text_bytes report_bytes (Err (HostFault Put)) old middle new outputs ended written answer = (text_bytes, report_bytes, outputs, inr (subst (λ before. HoldsFront report report_bytes before new.files) written answer))
-last_write plan text report text_bytes report_bytes (Err Memory) old middle new outputs ended written answer = inr (text_bytes, report_bytes, outputs, inr (subst (λ before. HoldsPart report report_bytes before new.files) written answer))
-last_write plan text report text_bytes report_bytes (Err _) old middle new outputs ended written answer = absurd answer
+pub last_write : (plan text report : List ℕ) (text_bytes report_bytes : List ℕ) (result : Result (Unit {0}) WriteFault) (meaning : Plan) (old middle new : HostState) → AreOutputs plan old.files text_bytes report_bytes → IsReadPlan plan meaning old new
+    → middle.files ≡ insert old.files text text_bytes → WriteAnswer report report_bytes result middle.files new.files → CompileEnds plan text report (result_of_writing result) old new
+last_write plan text report text_bytes report_bytes (Ok done) meaning old middle new outputs read is_written answer = record {
+  text_bytes = text_bytes;
+  report_bytes = report_bytes;
+  outputs = outputs;
+  ended = ended_of plan meaning outputs.built.plan old new read outputs.built.accepted.says;
+  written = answer ∙ ap (λ files. insert files report report_bytes) is_written;
+}
+last_write plan text report text_bytes report_bytes (Err (writing.HostFault OpenInput)) meaning old middle new outputs read is_written answer = absurd answer
+last_write plan text report text_bytes report_bytes (Err (writing.HostFault Next)) meaning old middle new outputs read is_written answer = absurd answer
+last_write plan text report text_bytes report_bytes (Err (writing.HostFault OpenOutput)) meaning old middle new outputs read is_written answer = (text_bytes, report_bytes, outputs, inr (subst (λ before. IsEmptied report before new.files) is_written answer))
+last_write plan text report text_bytes report_bytes (Err (writing.HostFault Put)) meaning old middle new outputs read is_written answer = (text_bytes, report_bytes, outputs, inr (subst (λ before. HoldsFront report report_bytes before new.files) is_written answer))
+last_write plan text report text_bytes report_bytes (Err writing.Memory) meaning old middle new outputs read is_written answer = inr (text_bytes, report_bytes, outputs, inr (subst (λ before. HoldsPart report report_bytes before new.files) is_written answer))

@@ -4,8 +4,8 @@ use Rattle.mr_values.specs.Faults.{IsRisen}
 use Rattle.mr_values.specs.Files.{Files}
 use Rattle.mr_values.specs.Host.{HostState}
 use Rattle.mr_values.specs.declared.plan.Plan.{Plan as Plan_}
-use Rattle.command_files.specs.declared.fault.Fault.{Fault}
-use Rattle.command_files.specs.declared.fault.Fault.TheVariants.{HostFault, Memory, NotBuilt}
+use Rattle.command_files.specs.declared.fault.CommandFault.{CommandFault}
+use Rattle.command_files.specs.declared.fault.CommandFault.TheVariants.{HostFault, Memory, NotBuilt}
 use Rattle.chain_build.specs.Built.{are_built}
 use Rattle.command_files.specs.Ends.{IsStruckFor, call_of}
 use Rattle.command_files.specs.PlanFile.{IsAcceptedFile, IsOfPlan}
@@ -20,7 +20,7 @@ is_built name files built other =
     let isnt = other.other in
     absurd (cc)
 
-pub compile-complete : (plan text report : List ℕ) (result : Result (Unit {0}) Fault) (old new : HostState) → IsStruckFor (IsOfPlan plan) (call_of result) old new → CompileEnds plan text report result old new
+pub compile-complete : (plan text report : List ℕ) (result : Result (Unit {0}) CommandFault) (old new : HostState) → IsStruckFor (IsOfPlan plan) (call_of result) old new → CompileEnds plan text report result old new
     → IsBuiltFile plan old.files → ¬ IsRisen old.struck new.struck → IsOkUnless result Memory
 compile-complete plan text report (Ok unit) old new struck ends built unstruck = tt
 compile-complete plan text report (Err Memory) old new struck ends built unstruck = refl
@@ -29,7 +29,7 @@ compile-complete plan text report (Err (HostFault call)) old new (inr missing) e
 compile-complete plan text report (Err NotBuilt) old new struck ends built unstruck = absurd (is_built plan old.files built ends.0)
 compile-complete plan text report (Err why) old new struck ends built unstruck = absurd (accepted_isnt_refused plan old.files built.plan why built.accepted ends.0)
 
-pub noble-complete : (plan out : List ℕ) (result : Result (Unit {0}) Fault) (old new : HostState) → IsStruckFor (IsOfPlan plan) (call_of result) old new → NobleEnds plan out result old new
+pub noble-complete : (plan out : List ℕ) (result : Result (Unit {0}) CommandFault) (old new : HostState) → IsStruckFor (IsOfPlan plan) (call_of result) old new → NobleEnds plan out result old new
     → (meaning : Plan_) → IsAcceptedFile plan old.files meaning → ¬ IsRisen old.struck new.struck → IsOkUnless result Memory
 noble-complete plan out (Ok unit) old new struck ends meaning accepted unstruck = tt
 noble-complete plan out (Err Memory) old new struck ends meaning accepted unstruck = refl

@@ -8,29 +8,38 @@ use Rattle.mr_values.specs.Value.{size}
 use Rattle.mr_values.specs.declared.host.HostCall.TheVariants.{OpenInput, Next, OpenOutput, Put}
 use Rattle.mr_values.specs.declared.plan.Plan.{Plan as Plan_}
 use Rattle.chain_build.specs.Told.{HasNoRegister}
-use Rattle.command_files.specs.declared.fault.Fault.{Fault}
-use Rattle.command_files.specs.declared.fault.Fault.TheVariants.{HostFault, Memory, NotBuilt, NoSuchRegister}
+use Rattle.command_files.specs.declared.fault.CommandFault.{CommandFault}
+use Rattle.command_files.specs.declared.fault.CommandFault.TheVariants.{HostFault, Memory, NotBuilt, NoSuchRegister}
 use Rattle.command_files.specs.Ends.{IsStruckFor, call_of}
 use Rattle.plan_commands.specs.Extreme.{IsExtremeFile, LacksRegister, ExtremeEnds, IsExtremeReady}
 use Rattle.command_files.specs.PlanFile.{IsOfPlan, AreReadToEnd}
 use Rattle.command_files.specs.Reading.{PlanAnswer}
+use Rattle.command_files.specs.declared.fault.WriteFault.{WriteFault}
+use Rattle.command_files.specs.declared.fault.WriteFault.TheVariants as writing
+use Rattle.command_files.specs.Conversions.{fault_of_writing, result_of_writing}
+use Rattle.command_files.specs.Reading.{IsReadPlan}
+use Rattle.command_files.proofs.EndedPlan.{ended_of}
 use Rattle.command_files.specs.WholeFiles.{WriteAnswer, IsEmptied, HoldsFront, HoldsPart}
 use Rattle.command_files.proofs.AcceptSteps.{same_plan, accepted_isnt_refused, accepted_isnt_missing}
 use Rattle.plan_commands.proofs.Completeness.{is_built}
 
 -- OUT is written
-pub extreme-written : (plan register out text : List ℕ) (result : Result (Unit {0}) Fault) (old read new : HostState) → IsExtremeFile plan register old.files text → AreReadToEnd plan old new → read.files ≡ old.files
-    → WriteAnswer out text result read.files new.files → ExtremeEnds plan register out result old new
-extreme-written plan register out text (Ok unit) old read new output ended files answer = record { text = text; output = output; ended = ended; written = answer ∙ ap (λ (before : Files). insert before out text) files }
-extreme-written plan register out text (Err (HostFault OpenInput)) old read new output ended files answer = absurd answer
-extreme-written plan register out text (Err (HostFault Next)) old read new output ended files answer = absurd answer
-extreme-written plan register out text (Err (HostFault OpenOutput)) old read new output ended files answer = (text, output, subst (λ (before : Files). IsEmptied out before new.files) files answer)
-extreme-written plan register out text (Err (HostFault Put)) old read new output ended files answer = (text, output, subst (λ (before : Files). HoldsFront out text before new.files) files answer)
-extreme-written plan register out text (Err Memory) old read new output ended files answer = inr (text, output, subst (λ (before : Files). HoldsPart out text before new.files) files answer)
-extreme-written plan register out text (Err _) old read new output ended files answer = absurd answer
+pub extreme-written : (plan register out text : List ℕ) (result : Result (Unit {0}) WriteFault) (meaning : Plan_) (old read new : HostState) → IsExtremeFile plan register old.files text → IsReadPlan plan meaning old new → read.files ≡ old.files
+    → WriteAnswer out text result read.files new.files → ExtremeEnds plan register out (result_of_writing result) old new
+extreme-written plan register out text (Ok unit) meaning old read new output is_read files answer = record {
+  text = text;
+  output = output;
+  ended = ended_of plan meaning output.built.plan old new is_read output.built.accepted.says;
+  written = answer ∙ ap (λ (before : Files). insert before out text) files;
+}
+extreme-written plan register out text (Err (writing.HostFault OpenInput)) meaning old read new output is_read files answer = absurd answer
+extreme-written plan register out text (Err (writing.HostFault Next)) meaning old read new output is_read files answer = absurd answer
+extreme-written plan register out text (Err (writing.HostFault OpenOutput)) meaning old read new output is_read files answer = (text, output, subst (λ (before : Files). IsEmptied out before new.files) files answer)
+extreme-written plan register out text (Err (writing.HostFault Put)) meaning old read new output is_read files answer = (text, output, subst (λ (before : Files). HoldsFront out text before new.files) files answer)
+extreme-written plan register out text (Err writing.Memory) meaning old read new output is_read files answer = inr (text, output, subst (λ (before : Files). HoldsPart out text before new.files) files answer)
 
 -- PLAN wasn't read, or is refused
-pub extreme-refused : (plan register out : List ℕ) (fault : Fault) (old new : HostState) → PlanAnswer plan old.files (Err fault) → new.files ≡ old.files → ExtremeEnds plan register out (Err fault) old new
+pub extreme-refused : (plan register out : List ℕ) (fault : CommandFault) (old new : HostState) → PlanAnswer plan old.files (Err fault) → new.files ≡ old.files → ExtremeEnds plan register out (Err fault) old new
 extreme-refused plan register out (HostFault OpenInput) old new answer same = same
 extreme-refused plan register out (HostFault Next) old new answer same = same
 extreme-refused plan register out (HostFault OpenOutput) old new answer same = absurd answer
@@ -49,7 +58,7 @@ isnt_lacked plan register files ready lacks =
     let none = subst (λ (p : Plan_). HasNoRegister (size p.width) (size p.ticks) p.elements register) one lacks.none in
     none.none ready.wide.r ready.wide.sum (record { place = ready.wide.place; there = ready.wide.there; needed = ready.wide.needed }) ready.wide.named
 
-pub extreme-complete : (plan register out : List ℕ) (result : Result (Unit {0}) Fault) (old new : HostState) → IsStruckFor (IsOfPlan plan) (call_of result) old new → ExtremeEnds plan register out result old new
+pub extreme-complete : (plan register out : List ℕ) (result : Result (Unit {0}) CommandFault) (old new : HostState) → IsStruckFor (IsOfPlan plan) (call_of result) old new → ExtremeEnds plan register out result old new
     → IsExtremeReady plan register old.files → ¬ IsRisen old.struck new.struck → IsOkUnless result Memory
 extreme-complete plan register out (Ok unit) old new struck ends ready unstruck = tt
 extreme-complete plan register out (Err Memory) old new struck ends ready unstruck = refl

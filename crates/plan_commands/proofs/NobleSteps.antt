@@ -19,10 +19,15 @@ use Rattle.noble_rewrite.specs.declared.turn.Applied.{Applied}
 use Rattle.noble_rewrite.specs.Turns.{HasFactor, HaveFactors, IsSettled, LeadsTo}
 use Rattle.mr_values.specs.Sequence.{Sequence}
 use Rattle.plan_reader.specs.Documents.{Says}
-use Rattle.command_files.specs.declared.fault.Fault.{Fault}
-use Rattle.command_files.specs.declared.fault.Fault.TheVariants.{HostFault, Memory}
+use Rattle.command_files.specs.declared.fault.CommandFault.{CommandFault}
+use Rattle.command_files.specs.declared.fault.CommandFault.TheVariants.{HostFault, Memory}
 use Rattle.command_files.specs.PlanFile.{AreReadToEnd}
 use Rattle.plan_commands.specs.Noble.{IsRewriting, IsOutput, NobleEnds}
+use Rattle.command_files.specs.declared.fault.WriteFault.{WriteFault}
+use Rattle.command_files.specs.declared.fault.WriteFault.TheVariants as writing
+use Rattle.command_files.specs.Conversions.{fault_of_writing, result_of_writing}
+use Rattle.command_files.specs.Reading.{IsReadPlan}
+use Rattle.command_files.proofs.EndedPlan.{ended_of}
 use Rattle.command_files.specs.WholeFiles.{WriteAnswer, IsEmptied, HoldsFront, HoldsPart}
 
 from_one : (most : ℕ) (z : ℤ) → IsFromOne most z → 1 ≤ size z
@@ -64,15 +69,19 @@ rewriting_of plan new bytes turns accepted says width ticks leads ended value = 
 }
 
 -- OUT is written
-pub out_written : (plan out text : List ℕ) (result : Result (Unit {0}) Fault) (old read new : HostState) → IsOutput plan old.files text → AreReadToEnd plan old new → read.files ≡ old.files
-    → WriteAnswer out text result read.files new.files → NobleEnds plan out result old new
-out_written plan out text (Ok unit) old read new output ended files answer = record { bytes = text; output = output; ended = ended; written = answer ∙ ap (λ (before : Files). insert before out text) files }
-out_written plan out text (Err (HostFault OpenInput)) old read new output ended files answer = absurd answer
-out_written plan out text (Err (HostFault Next)) old read new output ended files answer = absurd answer
-out_written plan out text (Err (HostFault OpenOutput)) old read new output ended files answer = (text, output, subst (λ (before : Files). IsEmptied out before new.files) files answer)
-out_written plan out text (Err (HostFault Put)) old read new output ended files answer = (text, output, subst (λ (before : Files). HoldsFront out text before new.files) files answer)
-out_written plan out text (Err Memory) old read new output ended files answer = inr (text, output, subst (λ (before : Files). HoldsPart out text before new.files) files answer)
-out_written plan out text (Err _) old read new output ended files answer = absurd answer
+pub out_written : (plan out text : List ℕ) (result : Result (Unit {0}) WriteFault) (meaning : Plan) (old read new : HostState) → IsOutput plan old.files text → IsReadPlan plan meaning old new → read.files ≡ old.files
+    → WriteAnswer out text result read.files new.files → NobleEnds plan out (result_of_writing result) old new
+out_written plan out text (Ok unit) meaning old read new output is_read files answer = record {
+  bytes = text;
+  output = output;
+  ended = ended_of plan meaning output.meaning old new is_read output.accepted.says;
+  written = answer ∙ ap (λ (before : Files). insert before out text) files;
+}
+out_written plan out text (Err (writing.HostFault OpenInput)) meaning old read new output is_read files answer = absurd answer
+out_written plan out text (Err (writing.HostFault Next)) meaning old read new output is_read files answer = absurd answer
+out_written plan out text (Err (writing.HostFault OpenOutput)) meaning old read new output is_read files answer = (text, output, subst (λ (before : Files). IsEmptied out before new.files) files answer)
+out_written plan out text (Err (writing.HostFault Put)) meaning old read new output is_read files answer = (text, output, subst (λ (before : Files). HoldsFront out text before new.files) files answer)
+out_written plan out text (Err writing.Memory) meaning old read new output is_read files answer = inr (text, output, subst (λ (before : Files). HoldsPart out text before new.files) files answer)
 
 -- the text of a rewritten plan
 pub rewriting_text : (plan : Plan) (given elements : List Element) (turns : List Applied) (result : Result (Vec ℕ Global) NoMemory) → IsAccepted plan → given ≡ plan.elements

@@ -5,8 +5,8 @@ use Rattle.mr_values.specs.Files.{Files}
 use Rattle.mr_values.specs.Host.{HostState}
 use Rattle.mr_values.specs.declared.host.HostCall.{HostCall}
 use Rattle.mr_values.specs.declared.host.HostCall.TheVariants.{OpenInput, Next, OpenOutput, Put}
-use Rattle.command_files.specs.declared.fault.Fault.{Fault}
-use Rattle.command_files.specs.declared.fault.Fault.TheVariants.{HostFault, Memory, NotBuilt}
+use Rattle.command_files.specs.declared.fault.CommandFault.{CommandFault}
+use Rattle.command_files.specs.declared.fault.CommandFault.TheVariants.{HostFault, Memory, NotBuilt}
 use Rattle.mr_values.specs.declared.plan.Plan.{Plan}
 use Rattle.mr_values.specs.declared.plan.Element.{Element}
 use Rattle.mr_values.specs.Timing.{groups}
@@ -62,7 +62,7 @@ pub record IsCompiled (plan text report : List ℕ) (old new : HostState) : Type
   pub text_bytes : List ℕ
   pub report_bytes : List ℕ
   pub outputs : AreOutputs plan old.files text_bytes report_bytes
-  pub ended : AreReadToEnd plan old new
+  pub ended : AreReadToEnd plan outputs.built.accepted.says.text old new
   pub written : HoldsBoth text report text_bytes report_bytes old.files new.files
 
 -- what the files hold where TEXT was being written, or REPORT was and TEXT is whole
@@ -87,7 +87,7 @@ abbrev pub IsCutOff : List ℕ → List ℕ → List ℕ → Files → Files →
 IsCutOff plan text report old new = (new ≡ old) ⊎ IsCutShort HoldsPart plan text report old new
 
 -- each answer of `compile`, and the host after it
-abbrev pub CompileEnds : List ℕ → List ℕ → List ℕ → Result (Unit {0}) Fault → HostState → HostState → Type 0
+abbrev pub CompileEnds : List ℕ → List ℕ → List ℕ → Result (Unit {0}) CommandFault → HostState → HostState → Type 0
 CompileEnds plan text report (Ok done) old new = IsCompiled plan text report old new
 CompileEnds plan text report (Err NotBuilt) old new = IsUnbuiltFile plan old.files × (new.files ≡ old.files)
 CompileEnds plan text report (Err (HostFault call)) old new = IsStoppedAt call plan text report old.files new.files

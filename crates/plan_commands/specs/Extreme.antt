@@ -8,8 +8,8 @@ use Rattle.chain_build.specs.Linear.{linear}
 use Rattle.chain_build.specs.Told.{HasNoRegister}
 use Rattle.filter_text.specs.Extremes.{IsWideIn}
 use Rattle.register_extremes.specs.Text.{IsExtremeText}
-use Rattle.command_files.specs.declared.fault.Fault.{Fault}
-use Rattle.command_files.specs.declared.fault.Fault.TheVariants.{HostFault, Memory, NotBuilt, NoSuchRegister}
+use Rattle.command_files.specs.declared.fault.CommandFault.{CommandFault}
+use Rattle.command_files.specs.declared.fault.CommandFault.TheVariants.{HostFault, Memory, NotBuilt, NoSuchRegister}
 use Rattle.plan_commands.specs.Compile.{IsBuiltFile, IsUnbuiltFile}
 use Rattle.command_files.specs.OutFile.{IsHaltedAt, IsEnded}
 use Rattle.command_files.specs.PlanFile.{IsRefusedPlan, AreReadToEnd}
@@ -29,11 +29,11 @@ pub record LacksRegister (plan register : List ℕ) (files : Files) : Type 0 whe
 pub record IsExtremeTold (plan register out : List ℕ) (old new : HostState) : Type 0 where
   pub text : List ℕ
   pub output : IsExtremeFile plan register old.files text
-  pub ended : AreReadToEnd plan old new
+  pub ended : AreReadToEnd plan output.built.accepted.says.text old new
   pub written : new.files ≡ insert old.files out text
 
 -- each answer of `extreme`, and the host after it
-abbrev pub ExtremeEnds : List ℕ → List ℕ → List ℕ → Result (Unit {0}) Fault → HostState → HostState → Type 0
+abbrev pub ExtremeEnds : List ℕ → List ℕ → List ℕ → Result (Unit {0}) CommandFault → HostState → HostState → Type 0
 ExtremeEnds plan register out (Ok unit) old new = IsExtremeTold plan register out old new
 ExtremeEnds plan register out (Err NotBuilt) old new = IsUnbuiltFile plan old.files × (new.files ≡ old.files)
 ExtremeEnds plan register out (Err (NoSuchRegister name)) old new = (name ≡ register) × LacksRegister plan register old.files × (new.files ≡ old.files)

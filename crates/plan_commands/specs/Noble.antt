@@ -9,8 +9,8 @@ use Rattle.mr_values.specs.declared.plan.Plan.{Plan}
 use Rattle.noble_rewrite.specs.declared.turn.Applied.{Applied}
 use Rattle.noble_rewrite.specs.Turns.{IsSettled, LeadsTo}
 use Rattle.plan_reader.specs.Documents.{Says}
-use Rattle.command_files.specs.declared.fault.Fault.{Fault}
-use Rattle.command_files.specs.declared.fault.Fault.TheVariants.{HostFault, Memory}
+use Rattle.command_files.specs.declared.fault.CommandFault.{CommandFault}
+use Rattle.command_files.specs.declared.fault.CommandFault.TheVariants.{HostFault, Memory}
 use Rattle.command_files.specs.PlanFile.{IsAcceptedFile, IsRefusedPlan, AreReadToEnd}
 use Rattle.command_files.specs.OutFile.{IsHaltedAt, IsEnded}
 
@@ -37,11 +37,11 @@ pub record IsOutput (plan : List ℕ) (files : Files) (bytes : List ℕ) : Type 
 pub record IsRewritten (plan out : List ℕ) (old new : HostState) : Type 0 where
   pub bytes : List ℕ
   pub output : IsOutput plan old.files bytes
-  pub ended : AreReadToEnd plan old new
+  pub ended : AreReadToEnd plan output.accepted.says.text old new
   pub written : new.files ≡ insert old.files out bytes
 
 -- each answer of `noble`, and the host after it
-abbrev pub NobleEnds : List ℕ → List ℕ → Result (Unit {0}) Fault → HostState → HostState → Type 0
+abbrev pub NobleEnds : List ℕ → List ℕ → Result (Unit {0}) CommandFault → HostState → HostState → Type 0
 NobleEnds plan out (Ok unit) old new = IsRewritten plan out old new
 NobleEnds plan out (Err (HostFault call)) old new = IsHaltedAt call (IsOutput plan old.files) out old.files new.files
 NobleEnds plan out (Err Memory) old new = IsEnded (IsOutput plan old.files) out old.files new.files

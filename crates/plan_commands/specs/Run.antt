@@ -10,10 +10,12 @@ use Rattle.mr_values.specs.declared.plan.Plan.{Plan}
 use Rattle.sample_file.specs.declared.fault.LineFault.{LineFault}
 use Rattle.chain_run.specs.declared.timing.ChainTiming.{ChainTiming}
 use Rattle.chain_run.specs.Outputs.{IsRunText, file_samples}
-use Rattle.command_files.specs.declared.fault.Fault.{Fault}
-use Rattle.command_files.specs.declared.fault.Fault.TheVariants.{HostFault, Memory, NotBuilt, Line}
+use Rattle.command_files.specs.declared.fault.CommandFault.{CommandFault}
+use Rattle.command_files.specs.declared.fault.CommandFault.TheVariants.{HostFault, Memory, NotBuilt, Line}
 use Rattle.plan_commands.specs.Compile.{IsBuiltFile, IsUnbuiltFile}
-use Rattle.command_files.specs.PlanFile.{IsRefusedPlan, IsOfPlan}
+use Rattle.command_files.specs.Ends.{IsReadToEnd}
+use Rattle.command_files.specs.PlanFile.{IsRefusedPlan, IsOfPlan, AreEnded}
+use Rattle.command_files.specs.RowFiles.{IsThere}
 use Rattle.command_files.specs.WholeFiles.{IsEmptied, HoldsFront}
 
 -- at which ticks the samples and the values of a plan stand
@@ -40,34 +42,36 @@ pub record HoldsRun (plan samples out : List ℕ) (last : Option LineFault) (old
   pub is_run : IsRunOf plan samples old text last
   pub written : new ≡ insert old out text
 
--- OUT holds the text from its beginning, but not to its end, and no other file has changed
+-- OUT holds the text from its beginning, and no other file has changed
 pub record HoldsRunFront (plan samples out : List ℕ) (old new : Files) : Type 0 where
   pub text : List ℕ
   pub last : Option LineFault
   pub is_run : IsRunOf plan samples old text last
   pub written : HoldsFront out text old new
 
--- the command was done: SAMPLES was read to its end, and none of its lines is refused
+-- the command was done: PLAN, its tap files and SAMPLES were read to their ends, and no line of SAMPLES is refused
 pub record IsRun (plan samples out : List ℕ) (old new : HostState) : Type 0 where
   pub holds : HoldsRun plan samples out None old.files new.files
+  pub plan_ended : AreEnded plan holds.is_run.built.accepted.says.text old new
+  pub ended : IsReadToEnd samples old new
   pub read : new.input ≡ samples
   pub end : left_of new ≡ []
 
 -- each answer of `run`, and the host after it
-abbrev pub RunEnds : List ℕ → List ℕ → List ℕ → Result (Unit {0}) Fault → HostState → HostState → Type 0
+abbrev pub RunEnds : List ℕ → List ℕ → List ℕ → Result (Unit {0}) CommandFault → HostState → HostState → Type 0
 RunEnds plan samples out (Ok done) old new = IsRun plan samples out old new
 RunEnds plan samples out (Err NotBuilt) old new = IsUnbuiltFile plan old.files × (new.files ≡ old.files)
 RunEnds plan samples out (Err (Line fault)) old new = HoldsRun plan samples out (Some fault) old.files new.files
 RunEnds plan samples out (Err (HostFault OpenInput)) old new = new.files ≡ old.files
 RunEnds plan samples out (Err (HostFault Next)) old new = (new.files ≡ old.files) ⊎ HoldsRunFront plan samples out old.files new.files
-RunEnds plan samples out (Err (HostFault OpenOutput)) old new = IsBuiltFile plan old.files × IsEmptied out old.files new.files
+RunEnds plan samples out (Err (HostFault OpenOutput)) old new = IsBuiltFile plan old.files × IsThere samples old.files × IsEmptied out old.files new.files
 RunEnds plan samples out (Err (HostFault Put)) old new = HoldsRunFront plan samples out old.files new.files
 RunEnds plan samples out (Err Memory) old new = (new.files ≡ old.files) ⊎ HoldsRunFront plan samples out old.files new.files
 RunEnds plan samples out (Err why) old new = IsRefusedPlan plan old.files why × (new.files ≡ old.files)
 
--- a file that `run` reads: PLAN, a tap file that it names, or SAMPLES
+-- a file that `run` reads: PLAN, a tap file that it names, or SAMPLES, once PLAN is accepted and built
 abbrev pub IsReadForRun : List ℕ → List ℕ → Files → List ℕ → Type 0
-IsReadForRun plan samples files name = IsOfPlan plan files name ⊎ (name ≡ samples)
+IsReadForRun plan samples files name = IsOfPlan plan files name ⊎ (IsBuiltFile plan files × (name ≡ samples))
 
 -- PLAN is accepted and built, SAMPLES is there, and none of its lines is refused
 pub record IsRunReady (plan samples : List ℕ) (files : Files) : Type 0 where

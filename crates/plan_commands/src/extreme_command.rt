@@ -1,11 +1,12 @@
 // The command `extreme`.
-ghost use Rattle.std.specs.Prelude.{◌≢◌, Err, IsTrue};
+ghost use Rattle.std.specs.Prelude.{IfErr, IsTrue};
+ghost use Rattle.command_files.specs.Conversions.{IsPlain};
 ghost use Rattle.command_files.specs.Ends.{EndsWith, call_of};
 ghost use Rattle.plan_commands.specs.Extreme.{ExtremeEnds};
 ghost use Rattle.command_files.specs.PlanFile.{IsOfPlan};
 
 use chain_build::can_build;
-use command_files::{Fault, read_accepted, write_file};
+use command_files::{CommandFault, read_accepted, write_file};
 use mr_values::{Host, Text};
 use register_extremes::register_text;
 use std::alloc::Global;
@@ -20,20 +21,20 @@ pub fn extreme<H: Host>(
     register: &str,
     out: &str,
     host: &mut H,
-) -> Result<(), Fault>
+) -> Result<(), CommandFault>
+    ensures plain { IfErr result IsPlain }
     ensures cause { EndsWith (IsOfPlan plan.now) (call_of result) (H.state host.old) (H.state host.new) }
-    ensures command { result ≢ Err Fault.Usage }
     ensures told { IsTrue (H.state host.old).tells → ExtremeEnds plan.now register.now out.now result (H.state host.old) (H.state host.new) }
 {
     let accepted = read_accepted(alloc, host, plan)?;
     if !can_build(&accepted.plan) {
-        return Err(Fault::NotBuilt);
+        return Err(CommandFault::NotBuilt);
     }
     match register_text(alloc, &accepted.plan, &accepted.facts, register)? {
-        Some(text) => write_file(host, out, &text),
+        Some(text) => Ok(write_file(host, out, &text)?),
         None => {
             let name = Text::from_str(alloc, register)?;
-            Err(Fault::NoSuchRegister { name })
+            Err(CommandFault::NoSuchRegister { name })
         }
     }
 }

@@ -1,12 +1,13 @@
 // The command `noble`.
-ghost use Rattle.std.specs.Prelude.{◌≢◌, Err, IfOk, IsTrue};
+ghost use Rattle.std.specs.Prelude.{IfErr, IfOk, IsTrue};
 ghost use Rattle.mr_values.specs.Value.{AreFirst};
 ghost use Rattle.plan_check.specs.Accepted.{IsAccepted};
+ghost use Rattle.command_files.specs.Conversions.{IsPlain};
 ghost use Rattle.command_files.specs.Ends.{EndsWith, call_of};
 ghost use Rattle.plan_commands.specs.Noble.{IsRewriting, NobleEnds};
 ghost use Rattle.command_files.specs.PlanFile.{IsOfPlan};
 
-use command_files::{AcceptedPlan, Fault, read_accepted, write_file};
+use command_files::{AcceptedPlan, CommandFault, read_accepted, write_file};
 use mr_values::{Host, Memory, Plan};
 use noble_rewrite::rewrite;
 use plan_reader::plan_text;
@@ -15,9 +16,14 @@ use std::alloc::Global;
 /// Reads PLAN and its tap files whole, and writes the plan with the noble identities applied to OUT. Fails with
 /// `FileTooLong` where one of them has more than 1 MiB, with the first test that the plan doesn't pass, with
 /// `HostFault` where a host call fails, and for want of memory.
-pub fn noble<H: Host>(alloc: Global, plan: &str, out: &str, host: &mut H) -> Result<(), Fault>
+pub fn noble<H: Host>(
+    alloc: Global,
+    plan: &str,
+    out: &str,
+    host: &mut H,
+) -> Result<(), CommandFault>
+    ensures plain { IfErr result IsPlain }
     ensures cause { EndsWith (IsOfPlan plan.now) (call_of result) (H.state host.old) (H.state host.new) }
-    ensures command { result ≢ Err Fault.Usage }
     ensures told { IsTrue (H.state host.old).tells → NobleEnds plan.now out.now result (H.state host.old) (H.state host.new) }
 {
     let accepted = read_accepted(alloc, host, plan)?;
@@ -26,7 +32,8 @@ pub fn noble<H: Host>(alloc: Global, plan: &str, out: &str, host: &mut H) -> Res
         facts: _facts,
     } = accepted;
     let text = rewritten_text(alloc, meaning)?;
-    write_file(host, out, &text)
+    write_file(host, out, &text)?;
+    Ok(())
 }
 
 // The text of an accepted plan with the noble identities applied.

@@ -1,13 +1,14 @@
 // The command `run`.
-ghost use Rattle.std.specs.Prelude.{◌≡◌, ◌≢◌, Err, IsTrue};
+ghost use Rattle.std.specs.Prelude.{◌≡◌, ◌≢◌, IfErr, IsTrue};
 ghost use Rattle.mr_values.specs.Value.{size};
 ghost use Rattle.plan_check.specs.Accepted.{IsAccepted, AreFacts};
+ghost use Rattle.command_files.specs.Conversions.{IsPlain};
 ghost use Rattle.command_files.specs.Ends.{EndsWith, call_of};
 ghost use Rattle.plan_commands.specs.Run.{RunEnds, IsReadForRun, plan_timing};
 
 use chain_build::can_build;
 use chain_run::{ChainStream, ChainTiming};
-use command_files::{Fault, read_accepted, stream_rows};
+use command_files::{CommandFault, read_accepted, stream_rows};
 use filter_text::chain_module;
 use mr_values::{Host, Plan};
 use plan_check::Facts;
@@ -23,20 +24,21 @@ pub fn run_plan<H: Host>(
     samples: &str,
     out: &str,
     host: &mut H,
-) -> Result<(), Fault>
+) -> Result<(), CommandFault>
     requires { samples.now ≢ out.now }
+    ensures plain { IfErr result IsPlain }
     ensures cause { EndsWith (IsReadForRun plan.now samples.now) (call_of result) (H.state host.old) (H.state host.new) }
-    ensures command { result ≢ Err Fault.Usage }
     ensures told { IsTrue (H.state host.old).tells → RunEnds plan.now samples.now out.now result (H.state host.old) (H.state host.new) }
 {
     let accepted = read_accepted(alloc, host, plan)?;
     if !can_build(&accepted.plan) {
-        return Err(Fault::NotBuilt);
+        return Err(CommandFault::NotBuilt);
     }
     let timing = timing_of(&accepted.plan, &accepted.facts);
     let chain = chain_module(alloc, &accepted.plan, &accepted.facts)?;
     let mut stream = ChainStream::start(alloc, &chain.design, timing)?;
-    stream_rows(alloc, host, samples, out, &mut stream)
+    stream_rows(alloc, host, samples, out, &mut stream)?;
+    Ok(())
 }
 
 // At which ticks the samples and the values of a plan stand.

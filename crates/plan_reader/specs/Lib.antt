@@ -6,3 +6,4 @@ pub mod Magnitudes
 pub mod Answers
 pub mod Printed
 pub mod Tapped
+pub mod FaultLines

@@ -1,6 +1,7 @@
 // Why a plan file or a tap file is refused.
 use mr_values::{Memory, Text};
 use std::alloc::{AllocError, AllocFailed};
+use std::fmt;
 use thiserror::Error;
 
 /// What is wrong with a field.
@@ -85,5 +86,59 @@ impl<T: Drop> From<AllocFailed<T>> for TapFault {
 
     fn from(_: AllocFailed<T>) -> TapFault {
         TapFault::Memory
+    }
+}
+
+impl fmt::Display for FieldWhy {
+    ghost use Rattle.std.specs.Prelude.{Some};
+    ghost use Rattle.plan_reader.specs.FaultLines.{field_why_text};
+
+    ghost output = { λ word. Some (field_why_text word) };
+
+    fn fmt<W: fmt::Write>(&self, f: &mut fmt::Formatter<W>) -> fmt::Result {
+        match self {
+            FieldWhy::Missing => write!(f, "Missing"),
+            FieldWhy::WrongType => write!(f, "WrongType"),
+            FieldWhy::BadWord => write!(f, "BadWord"),
+            FieldWhy::Unknown => write!(f, "Unknown"),
+            FieldWhy::Both => write!(f, "Both"),
+        }
+    }
+}
+
+impl fmt::Display for TapWhy {
+    ghost use Rattle.std.specs.Prelude.{Some};
+    ghost use Rattle.plan_reader.specs.FaultLines.{tap_why_text};
+
+    ghost output = { λ word. Some (tap_why_text word) };
+
+    fn fmt<W: fmt::Write>(&self, f: &mut fmt::Formatter<W>) -> fmt::Result {
+        match self {
+            TapWhy::NotNumber => write!(f, "NotNumber"),
+            TapWhy::TooLarge => write!(f, "TooLarge"),
+        }
+    }
+}
+
+impl fmt::Display for PlanReadFault {
+    ghost use Rattle.std.specs.Prelude.{Some};
+    ghost use Rattle.plan_reader.specs.FaultLines.{plan_read_fault_text};
+
+    ghost output = { λ fault. Some (plan_read_fault_text fault) };
+
+    fn fmt<W: fmt::Write>(&self, f: &mut fmt::Formatter<W>) -> fmt::Result {
+        match self {
+            PlanReadFault::NotToml => write!(f, "NotToml"),
+            PlanReadFault::Field {
+                element,
+                field,
+                why,
+            } => {
+                let field = field.as_str();
+                write!(f, "Field element={element} field={field} why={why}")
+            }
+            PlanReadFault::Version { found } => write!(f, "Version found={found}"),
+            PlanReadFault::Memory => write!(f, "Memory"),
+        }
     }
 }

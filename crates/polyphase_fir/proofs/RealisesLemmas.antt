@@ -161,6 +161,7 @@ module _ {old first second new : NetView} {from stream : Stream} {window roots r
             omega (arith, before, trees, phases, after);
         windows = s.named.windows old.group ∙ p.named.windows old.group ∙ w.windows ∙ ap (λ (n : ℕ). windows_in old.group old.cells + n) (sym long);
         tables = s.named.tables old.group ∙ p.named.tables old.group ∙ w.tables ∙ omega arith;
+        own_tables = λ some. absurd (omega (arith, some));
         shallow = λ bound none.
             let s1 = shallow_more old.group data_group w.grows w.adders (IsShallow-none old.cells old.group bound none) in
             let s2 = sums.shallow (subst (λ (g : ℕ). IsShallow first.cells g) (sym same) s1) (subst (λ (g : ℕ). ArePlain first.cells g window) (sym same) w.plain) in

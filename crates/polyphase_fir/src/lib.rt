@@ -10,6 +10,3 @@ mod roots;
 mod stage;
 
 pub use polyphase::Polyphase;
-
-#[cfg(test)]
-mod tests;

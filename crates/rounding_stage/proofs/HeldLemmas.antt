@@ -20,7 +20,7 @@ pub IsHeld-taken : {old mid new : NetView} {from : Stream} {gate : Option Node} 
 IsHeld-taken {old} {mid} {new} {from} {gate} {group} {number} {register} g same t =
     let name = name_of group Register number in
     record {
-      grows = Grows-trans g.grows t.grows;
+      grows = Grows-trans g.grows (t.grows same);
       holds = t.holds;
       same_adders = SameAdders-trans g.adders t.adders;
       same_named = SameNamed-trans g.named (record {

@@ -1,3 +1,9 @@
+pub mod BitLemmas
+pub mod ClipBits
+pub mod EvenLemmas
+pub mod EvenNodes
+pub mod ClipNodes
 pub mod HeldLemmas
+pub mod MadeLemmas
 pub mod MapLemmas
 pub mod RealisesLemmas

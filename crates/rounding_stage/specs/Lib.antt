@@ -1,3 +1,6 @@
+pub mod Bits
+pub mod Clipping
 pub mod Held
+pub mod Made
 pub mod Map
 pub mod Rounding

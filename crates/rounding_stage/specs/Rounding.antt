@@ -6,7 +6,7 @@ use Rattle.mr_values.specs.declared.plan.Mode.TheVariants.{HalfUp, HalfEven, Flo
 use Rattle.stage_law.specs.Facts.{StageFacts}
 use Rattle.stage_law.specs.declared.stage.Kind.TheVariants.{Rounding}
 
--- the modes that are built
+-- the modes that a chain takes so far
 abbrev pub is_built_mode : Mode → Bool
 is_built_mode HalfUp = true
 is_built_mode HalfEven = false

@@ -1,12 +1,14 @@
 // Rounding to a multiple of a power of two.
 
-ghost use Rattle.std.specs.Prelude.{◌≡◌, true, ℕ, ◌+◌, ◌-◌, ◌<◌, ◌≤◌, ◌^◌, ℤ, pos, neg_ℤ, ◌≤ℤ◌, ◌+ℤ◌, length, IfOk};
+ghost use Rattle.std.specs.Prelude.{◌≡◌, ℕ, ◌+◌, ◌-◌, ◌<◌, ◌≤◌, ◌^◌, ℤ, pos, neg_ℤ, ◌≤ℤ◌, ◌+ℤ◌, length, IfOk};
 ghost use Rattle.mr_values.specs.Value.{round_value};
-ghost use Rattle.mr_values.specs.Width.{floor_quotient, IsLeastWidth};
+ghost use Rattle.mr_values.specs.Width.{floor_quotient};
 ghost use Rattle.net_graph.specs.Grow.{Extends};
 ghost use Rattle.rounding_stage.specs.Map.{IsMap};
-ghost use Rattle.rounding_stage.specs.Rounding.{is_built_mode, rounding_facts, rounding_adders, rounding_takes};
+ghost use Rattle.rounding_stage.specs.Rounding.{rounding_facts, rounding_adders, rounding_takes};
 
+use crate::ends::width_of;
+use crate::half_even::even_node;
 use crate::register::held;
 use mr_values::{Memory, Mode, floor_shift, least_width, power};
 use net_graph::{Net, Node, Stream};
@@ -20,14 +22,12 @@ pub struct Rounding {
     pub mode: Mode,
     ghost some: { 1 ≤ shift },
     ghost most: { shift ≤ 64 },
-    ghost built: { is_built_mode mode ≡ true },
 }
 
 impl Rounding {
     pub fn new(shift: u8, mode: Mode) -> Rounding
         requires some { 1 ≤ shift }
         requires most { shift ≤ 64 }
-        requires built { is_built_mode mode ≡ true }
         ensures shift { result.shift ≡ shift }
         ensures mode { result.mode ≡ mode }
     {
@@ -60,13 +60,6 @@ fn raised(range: Range, half: i128) -> Range
         lo: range.lo + half,
         hi: range.hi + half,
     }
-}
-
-// The least number of bits that holds the range.
-fn width_of(range: Range) -> u8
-    ensures { IsLeastWidth range.lo range.hi result }
-{
-    least_width(range.lo, range.hi)
 }
 
 // A node over `2^shift`, rounded down, where the node lies in the range: as wide as the rounded range needs.
@@ -108,7 +101,6 @@ fn sum_node(
 
 // A node, rounded, where it lies in the range.
 fn rounded(net: &mut Net, node: Node, mode: Mode, shift: u8, range: Range) -> Result<Node, Memory>
-    requires built { is_built_mode mode ≡ true }
     requires within { node.place < length net.old.cells }
     requires data_group { 1 ≤ net.old.group }
     requires low { 1 ≤ shift }
@@ -121,7 +113,10 @@ fn rounded(net: &mut Net, node: Node, mode: Mode, shift: u8, range: Range) -> Re
     ensures group { net.new.group ≡ net.old.group }
 {
     match mode {
-        Mode::HalfEven => unreachable!(),
+        Mode::HalfEven => {
+            let to = even_node(net, node, shift, range)?;
+            Ok(to)
+        }
         Mode::Floor => {
             let to = floor_node(net, node, shift, range)?;
             Ok(to)

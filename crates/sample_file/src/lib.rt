@@ -15,6 +15,3 @@ pub use lines::{Lines, Step};
 pub use print::put_row;
 pub use ranges::{Stimulus, pattern, sample_of, stimulus_of};
 pub use row::Row;
-
-#[cfg(test)]
-mod tests;

@@ -133,6 +133,10 @@ impl Lines {
         ensures fault { IfErr result (λ fault. (rest : List ℕ) → rows_from self.old (piece.now ++ rest) ≡ refused fault) }
         ensures kept { IfErr result (λ fault. self.new.fault ≡ Some fault) }
         ensures fields { self.new.fields ≡ self.old.fields }
+
+        // A refused line is answered for good, and no bytes are taken after it.
+        ensures stays { (f : LineFault) → self.old.fault ≡ Some f → result ≡ Err f }
+        ensures none { OnOk result (self.new.fault ≡ None) }
     {
         if let Some(fault) = self.fault {
             return Err(fault);
@@ -161,6 +165,8 @@ impl Lines {
         ensures ended { IfOk result (λ found. self.old.ended + length (option_to_list found) ≤ self.new.ended) }
         ensures more { self.old.ended ≤ self.new.ended }
         ensures few { self.new.ended < 2 ^ 32 }
+        ensures stays { (f : LineFault) → self.old.fault ≡ Some f → result ≡ Err f }
+        ensures none { OnOk result (self.new.fault ≡ None) }
     {
         match self.fault {
             Some(fault) => Err(fault),

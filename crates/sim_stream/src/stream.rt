@@ -1,7 +1,7 @@
 // A simulation of a stimulus that comes in pieces.
 ghost use Rattle.std.specs.Prelude.{◌≡◌, ◌≤◌, ◌<◌, ◌+◌, ◌^◌, ◌⊎◌, ◌++◌, length, IfOk, OnOk};
 ghost use Rattle.verilog_tree.specs.View.{design_view};
-ghost use Rattle.clock_sim.specs.Sim.{IsSound};
+ghost use Rattle.verilog_tree.specs.Checks.{Passes};
 ghost use Rattle.sample_file.specs.Reading.{most_before};
 ghost use Rattle.row_stream.specs.Giving.{Takes};
 ghost use Rattle.sim_stream.specs.Stream.{IsStart, GivesFrom};
@@ -10,13 +10,13 @@ use crate::cycle::run_cycle;
 use crate::laws::law_of_one_text;
 use crate::start::zero_sim;
 use clock_sim::Sim;
+use formed_module::FormedModule;
 use mr_values::Memory;
 use row_stream::{FULL, RowStream, StreamFault};
 use sample_file::Lines;
 use std::alloc::Global;
 use std::marker::Model;
 use std::mem::replace;
-use verilog_tree::Module;
 
 /// A simulation of a module, in the midst of its stimulus.
 #[derive(Drop)]
@@ -62,9 +62,9 @@ impl<'a> SimStream<'a> {
         }
     }
 
-    /// A simulation of a module from registers of 0, before its stimulus. Fails only for want of memory.
-    pub fn start(alloc: Global, design: &'a Module) -> Result<SimStream<'a>, Memory>
-        requires { IsSound (design_view design.now) }
+    /// A simulation of a module that passes the checks, from registers of 0, before its stimulus. Fails only for want of memory.
+    pub fn start(alloc: Global, design: &'a FormedModule) -> Result<SimStream<'a>, Memory>
+        requires { Passes (design_view design.now) }
         ensures { IfOk result (λ stream. IsStart stream design.now) }
     {
         Ok(SimStream {

@@ -10,12 +10,15 @@ use Rattle.plan_laws.specs.Laws.{IsBetween}
 use Rattle.plan_laws.proofs.Between.{between-filter}
 use Rattle.stage_law.specs.declared.ranges.Class.{Class}
 use Rattle.stage_law.specs.declared.ranges.Range.{Range}
-use Rattle.stage_law.specs.declared.ranges.WeightedSum.{WeightedSum}
+use Rattle.stage_law.specs.declared.weights.Weight.{Weight}
+use Rattle.stage_law.specs.declared.weights.WeightedSum.{WeightedSum}
 use Rattle.stage_law.specs.Range.{IsRange, InClass}
 use Rattle.stage_law.specs.Streams.{AreWithin, AreCausal, magnitudes}
 use Rattle.stage_law.specs.Weights.{weights_of}
 use Rattle.span_ranges.specs.Span.{IsInSpan}
-use Rattle.span_ranges.proofs.SumLemmas.{end_for, sum-ends, high_end-turned, low_end-zeros, magnitudes-zeros}
+use Rattle.span_ranges.proofs.SumLemmas.{end_for, sum-ends, high_end-turned, low_end-in}
+use Rattle.stage_law.specs.Rising.{factors_in}
+use Rattle.stage_law.proofs.WeightLemmas.{magnitudes-in}
 
 pub span_causal : (low high : ℤ) → AreCausal (IsInSpan low high)
 span_causal low high = record { each = λ v is n. is.causal n }
@@ -39,12 +42,12 @@ most_least low high m below above w =
     let h : unsigned_abs high ≤ m = w.each (steady high) (steady_in low high high below above (record { least = omega (arith, ints); greatest = omega (arith, ints) })) (pos 0) in
     omega arith
 
-pub room_of : (low high : ℤ) (sum : WeightedSum) (weights : List ℤ) → weights ≡ sum.weights.items → low ≤ℤ pos 0 → pos 0 ≤ℤ high → (m : ℕ) × AreWithin (IsInSpan low high) m × (m * magnitudes (weights_of sum) ≤ 2 ^ 126) → max (unsigned_abs low) (unsigned_abs high) * magnitudes weights ≤ 2 ^ 126
+pub room_of : (low high : ℤ) (sum : WeightedSum) (weights : List Weight) → weights ≡ sum.weights.items → low ≤ℤ pos 0 → pos 0 ≤ℤ high → (m : ℕ) × AreWithin (IsInSpan low high) m × (m * magnitudes (weights_of sum) ≤ 2 ^ 126) → max (unsigned_abs low) (unsigned_abs high) * magnitudes (factors_in weights) ≤ 2 ^ 126
 room_of low high sum weights same below above h =
     let most = most_least low high h.0 below above h.1 in
-    let times : max (unsigned_abs low) (unsigned_abs high) * magnitudes weights ≤ h.0 * magnitudes weights = mul-le-mul_right (magnitudes weights) most in
-    let short : magnitudes (weights_of sum) ≡ magnitudes weights = magnitudes-zeros sum.behind sum.weights.items ∙ sym (ap magnitudes same) in
-    let room : h.0 * magnitudes weights ≤ 2 ^ 126 = subst (λ (n : ℕ). h.0 * n ≤ 2 ^ 126) short h.2 in
+    let times : max (unsigned_abs low) (unsigned_abs high) * magnitudes (factors_in weights) ≤ h.0 * magnitudes (factors_in weights) = mul-le-mul_right (magnitudes (factors_in weights)) most in
+    let short : magnitudes (weights_of sum) ≡ magnitudes (factors_in weights) = magnitudes-in 0 sum.weights.items ∙ sym (ap (λ (ws : List Weight). magnitudes (factors_in ws)) same) in
+    let room : h.0 * magnitudes (factors_in weights) ≤ 2 ^ 126 = subst (λ (n : ℕ). h.0 * n ≤ 2 ^ 126) short h.2 in
     omega arith
 
 -- ---- the stream that reaches an end
@@ -109,8 +112,8 @@ IsRange-span form class low high range below above small lo hi =
       high_reached = record { stream = reaching form high low last; is_one = in_span_turned form low high below above last; index = last; in_class = past-class form class small; is = reaches form high low last (past-long form class small) ∙ sym hi };
     }
 
--- the zeros in front of a sum's weights add nothing to an end
-pub IsRange-sum : (sum : WeightedSum) (weights : List ℤ) (class : Class) (low high : ℤ) (range : Range) → weights ≡ sum.weights.items → low ≤ℤ pos 0 → pos 0 ≤ℤ high → class.residue < class.modulus → range.lo ≡ low_end weights low high → range.hi ≡ low_end weights high low → IsRange (IsInSpan low high) (weights_of sum) class range
+-- values without a weight add nothing to an end
+pub IsRange-sum : (sum : WeightedSum) (weights : List Weight) (class : Class) (low high : ℤ) (range : Range) → weights ≡ sum.weights.items → low ≤ℤ pos 0 → pos 0 ≤ℤ high → class.residue < class.modulus → range.lo ≡ low_end (factors_in weights) low high → range.hi ≡ low_end (factors_in weights) high low → IsRange (IsInSpan low high) (weights_of sum) class range
 IsRange-sum sum weights class low high range same below above small lo hi =
-    let short : (a b : ℤ) → low_end weights a b ≡ low_end (weights_of sum) a b = λ a b. ap (λ (ws : List ℤ). low_end ws a b) same ∙ sym (low_end-zeros sum.behind sum.weights.items a b) in
+    let short : (a b : ℤ) → low_end (factors_in weights) a b ≡ low_end (weights_of sum) a b = λ a b. ap (λ (ws : List Weight). low_end (factors_in ws) a b) same ∙ sym (low_end-in 0 sum.weights.items a b) in
     IsRange-span (weights_of sum) class low high range below above small (lo ∙ short low high) (hi ∙ short high low)

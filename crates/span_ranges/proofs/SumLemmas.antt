@@ -1,14 +1,17 @@
 -- Sums of a form over the ends of a span.
-use Rattle.std.proofs.Common.{◌≡◌, ℕ, zero, suc, ◌+◌, ◌*◌, ◌≤◌, ◌<◌, ◌^◌, max, List, [], ◌∷◌, ◌++◌, replicate, zero-add, length, drop, get_or, refl, sym, ◌∙◌, ap, subst, arith, ℤ, pos, negsuc, ◌+ℤ◌, ◌*ℤ◌, ◌≤ℤ◌, ◌<ℤ◌, to_z, of_z, FitsSigned}
+use Rattle.std.proofs.Common.{◌≡◌, ℕ, zero, suc, ◌+◌, ◌-◌, ◌*◌, ◌≤◌, ◌<◌, ◌^◌, max, List, [], ◌∷◌, ◌++◌, replicate, length, drop, get_or, refl, sym, ◌∙◌, ap, subst, arith, ℤ, pos, negsuc, ◌+ℤ◌, ◌*ℤ◌, ◌≤ℤ◌, ◌<ℤ◌, to_z, of_z, FitsSigned}
 use Rattle.std.specs.Prelude.{unsigned_abs}
 use Rattle.std.proofs.lemmas.Int.{ints, unsigned_abs-mul, fits_signed_mul, to_z-of_z}
 use mir.Syntax.{w128}
 use Rattle.std.proofs.lemmas.List.{drop_more, drop_all}
-use Rattle.std.proofs.Math.Nat.{mul-le-mul_left}
+use Rattle.std.proofs.Math.Nat.{mul-le-mul_left, mul_comm, mul-add}
 use Rattle.plan_check.proofs.Narrow.{triangle}
 use Rattle.mr_values.specs.Sequence.{weighted_sum}
 use Rattle.mr_values.specs.Timing.{least_term, low_end, high_end}
+use Rattle.stage_law.proofs.WeightLemmas.{count-in, factor-at}
+use Rattle.stage_law.specs.Rising.{blank, factors_from, factors_in}
 use Rattle.stage_law.specs.Streams.{magnitudes}
+use Rattle.stage_law.specs.declared.weights.Weight.{Weight}
 
 -- the end of the span that makes the product with a factor least
 abbrev pub end_for : ℤ → ℤ → ℤ → ℤ
@@ -36,13 +39,15 @@ high_end-turned (c ∷ cs) low high = ap (λ (z : ℤ). least_term high low c +�
 zero_times : (z : ℤ) → pos 0 *ℤ z ≡ pos 0
 zero_times z = grind (arith, ints)
 
-pub low_end-zeros : (n : ℕ) (weights : List ℤ) (low high : ℤ) → low_end (replicate n (pos 0) ++ weights) low high ≡ low_end weights low high
+low_end-zeros : (n : ℕ) (weights : List ℤ) (low high : ℤ) → low_end (replicate n (pos 0) ++ weights) low high ≡ low_end weights low high
 low_end-zeros zero weights low high = refl
 low_end-zeros (suc n) weights low high = omega (arith, ints, low_end-zeros n weights low high, zero_times low)
 
-pub magnitudes-zeros : (n : ℕ) (weights : List ℤ) → magnitudes (replicate n (pos 0) ++ weights) ≡ magnitudes weights
-magnitudes-zeros zero weights = refl
-magnitudes-zeros (suc n) weights = zero-add (magnitudes (replicate n (pos 0) ++ weights)) ∙ magnitudes-zeros n weights
+pub low_end-in : (place : ℕ) (ws : List Weight) (low high : ℤ) → low_end (factors_from place ws) low high ≡ low_end (factors_in ws) low high
+low_end-in place [] low high = refl
+low_end-in place (w ∷ ws) low high =
+    low_end-zeros (w.behind - place) (w.factor ∷ factors_from (suc w.behind) ws) low high
+    ∙ ap (λ (z : ℤ). least_term low high w.factor +ℤ z) (low_end-in (suc w.behind) ws low high)
 
 -- ---- products
 
@@ -95,3 +100,14 @@ sum_all form i low high sum whole past e =
 
 pub term_small_at : (factor low high term : ℤ) → term ≡ least_term low high factor → unsigned_abs term ≤ unsigned_abs factor * max (unsigned_abs low) (unsigned_abs high)
 term_small_at factor low high term e = subst (λ (z : ℤ). unsigned_abs z ≤ unsigned_abs factor * max (unsigned_abs low) (unsigned_abs high)) (sym e) (term-small factor low high)
+
+-- room for what is left holds the next product
+pub head-room : (ws : List Weight) (i most : ℕ) (sum : ℤ) → i < length ws → unsigned_abs sum + most * magnitudes (drop i (factors_in ws)) ≤ 2 ^ 126
+    → unsigned_abs sum + unsigned_abs (get_or ws i blank).factor * most ≤ 2 ^ 126
+head-room ws i most sum less room =
+    let inside : i < length (factors_in ws) = omega (arith, less, count-in ws) in
+    let head = ap magnitudes (drop_more (factors_in ws) i (pos 0) inside) in
+    let own = ap unsigned_abs (factor-at ws i less) in
+    let split : magnitudes (drop i (factors_in ws)) ≡ unsigned_abs (get_or ws i blank).factor + magnitudes (drop (i + 1) (factors_in ws)) = omega (arith, head, own) in
+    let whole : most * magnitudes (drop i (factors_in ws)) ≡ most * (unsigned_abs (get_or ws i blank).factor + magnitudes (drop (i + 1) (factors_in ws))) = ap (λ (n : ℕ). most * n) split in
+    omega (arith, whole, room, mul_comm (unsigned_abs (get_or ws i blank).factor) most, mul-add most (unsigned_abs (get_or ws i blank).factor) (magnitudes (drop (i + 1) (factors_in ws))))

@@ -2,5 +2,7 @@
 #![tactic(auto)]
 
 mod span;
+mod terms;
 
 pub use span::SpanRanges;
+pub use terms::least_sum;

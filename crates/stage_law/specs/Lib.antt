@@ -5,5 +5,6 @@ pub mod Least
 pub mod Range
 pub mod Realises
 pub mod Registers
+pub mod Rising
 pub mod Streams
 pub mod Weights

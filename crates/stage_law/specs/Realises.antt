@@ -14,6 +14,7 @@ use Rattle.net_graph.specs.Cut.{Cut, cut_all, cut_control}
 use Rattle.net_graph.specs.Depth.{IsShallow, IsUntouched}
 use Rattle.net_graph.specs.Grow.{Grows}
 use Rattle.net_graph.specs.Run.{Values, IsRun}
+use Rattle.net_graph.specs.Tables.{HasTables}
 use Rattle.net_graph.specs.WellFormed.{IsBound, IsFree}
 use Rattle.pipeline_balance.specs.Gate.{Carries}
 use Rattle.pipeline_balance.specs.Numbered.{LeavesFree, name_of}
@@ -45,7 +46,7 @@ CarriesThrough cut streams elements cells from to =
 
 -- The net grows by nodes of its group and of control. The stream that the stage gives has the stated period and offset and carries the
 -- elements, in the run and, for all stages but a rounding, in the uncut run. The net has so many adders, windows and tables more of its
--- group, and names of this group or of control alone are taken. Where the group is new and each register had its next, at most one adder
+-- group, of which each table is no adder, and names of this group or of control alone are taken. Where the group is new and each register had its next, at most one adder
 -- of the group stands between two registers. The registers of a linear stage are those of its list; a stage with registers of one width has so
 -- many, of the least width for what it gives. A stage with the shape of a linear group adds to its group only sums, differences, constants,
 -- shifts up, choices by control and registers.
@@ -59,6 +60,7 @@ pub record Realises (facts : StageFacts) (streams : Streams) (old new : NetView)
   pub adders : adders_in old.group new.cells ≡ adders_in old.group old.cells + facts.adders
   pub windows : windows_in old.group new.cells ≡ windows_in old.group old.cells + facts.windows
   pub tables : tables_in old.group new.cells ≡ tables_in old.group old.cells + facts.tables
+  pub own_tables : 0 < facts.tables → IsBound old.cells → HasTables old.cells → HasTables new.cells
   pub names : LeavesFree old.cells new.cells (IsOwnName old.group)
   pub shallow : IsBound old.cells → IsUntouched old.cells old.group → IsShallow new.cells old.group
   pub shapes : has_linear_shape facts.kind ≡ true → HasLinearItems old.cells old.group → HasLinearItems new.cells old.group

@@ -3,6 +3,8 @@
 
 mod ranges;
 mod stage;
+mod weights;
 
-pub use ranges::{Class, Range, Ranges, WeightedSum};
+pub use ranges::{Class, Range, Ranges};
 pub use stage::{Cost, Emitted, Kind, Peak, Rates, Stage};
+pub use weights::{Weight, WeightedSum};

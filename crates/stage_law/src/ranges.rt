@@ -1,12 +1,11 @@
 // Which values a weighted sum takes over the streams of a chain.
 
-ghost use Rattle.std.specs.Prelude.{◌≡◌, ℕ, ◌<◌, ◌*◌, ◌≤◌, ◌^◌, ◌++◌, ◌∷◌, [], pos, replicate, IfOk};
+ghost use Rattle.std.specs.Prelude.{◌≡◌, ℕ, ◌<◌, ◌*◌, ◌≤◌, ◌^◌};
 ghost use Rattle.stage_law.specs.Streams.{AreWithin, AreCausal, Streams, magnitudes};
 ghost use Rattle.stage_law.specs.Range.{IsRange};
 ghost use Rattle.stage_law.specs.Weights.{weights_of};
 
-use mr_values::Memory;
-use std::alloc::Global;
+use crate::weights::WeightedSum;
 
 /// The indices k with `k mod modulus = residue`.
 #[derive(Clone, Copy, Debug, PartialEq, Eq)]
@@ -20,23 +19,6 @@ pub struct Class {
 pub struct Range {
     pub lo: i128,
     pub hi: i128,
-}
-
-/// A weighted sum over a stream: at index k the sum of `weights[i] * v[k - behind - i]`.
-#[derive(Drop)]
-pub struct WeightedSum {
-    pub behind: u64,
-    pub weights: Vec<i128>,
-}
-
-impl WeightedSum {
-    /// The one value that came so many values before.
-    pub fn value(alloc: Global, behind: u64) -> Result<WeightedSum, Memory>
-        ensures { IfOk result (λ sum. weights_of sum ≡ replicate behind (pos 0) ++ (pos 1 ∷ [])) }
-    {
-        let weights = vec![in alloc; 1i128]?;
-        Ok(WeightedSum { behind, weights })
-    }
 }
 
 /// Knows a set of streams, which are 0 before they begin, and the range of each sum over them.

@@ -7,7 +7,8 @@ ghost use Rattle.stage_law.specs.Facts.{StageFacts};
 ghost use Rattle.stage_law.specs.Streams.{Streams, HasRoom};
 ghost use Rattle.stage_law.specs.Realises.{Realises, IsUnused};
 
-use crate::ranges::{Class, Ranges, WeightedSum};
+use crate::ranges::{Class, Ranges};
+use crate::weights::WeightedSum;
 use mr_values::Memory;
 use net_graph::{Net, Node, Stream};
 use std::alloc::Global;

@@ -296,6 +296,7 @@ module _ {old first new : NetView} {from : Stream} {window pair_nodes registers 
             omega (arith, one, two, three, four, pairs_are, centres_are, terms_are);
         windows = s.tree.tree.same_named.windows old.group ∙ b.named_same.windows old.group ∙ a.named_same.windows old.group ∙ w.windows ∙ ap (λ (n : ℕ). windows_in old.group old.cells + n) (sym long);
         tables = s.tree.tree.same_named.tables old.group ∙ b.named_same.tables old.group ∙ a.named_same.tables old.group ∙ w.tables ∙ omega arith;
+        own_tables = λ some. absurd (omega (arith, some));
         names = record { free = λ name other f. touched.free name (λ own. other (own_names old.group name own)) f };
         shallow = λ bound none. shallow_all (IsShallow-none old.cells old.group bound none);
         shapes = λ kind. (KeepsShapes-trans w.linear (KeepsShapes-trans a.linear (KeepsShapes-trans b.linear s.tree.tree.shallow.linear))).each old.group data_group;

@@ -1,5 +1,6 @@
 -- The steps of `order`.
 use Rattle.std.proofs.Common.{◌≡◌, ◌∙◌, ℕ, List, [], map, Option, Some, None, Result, Ok, Err, IsOkUnless, inl, inr, refl, sym, ap, subst}
+use Rattle.std.specs.FinMap.{get}
 use Rattle.mr_values.specs.Faults.{IsRisen}
 use Rattle.mr_values.specs.Files.{Files}
 use Rattle.mr_values.specs.Host.{HostState}
@@ -15,10 +16,13 @@ use Rattle.sim_stream.specs.Given.{cycle_at, cycles_for}
 use Rattle.order_stream.specs.Laws.{EveryOrderShows}
 use Rattle.order_stream.specs.Stream.{Midst, GivesFrom, IsStart}
 use Rattle.order_stream.proofs.Whole.{from-start}
-use Rattle.command_files.specs.declared.fault.Fault.{Fault}
-use Rattle.command_files.specs.declared.fault.Fault.TheVariants as fault
-use Rattle.command_files.specs.declared.fault.Fault.TheVariants.{HostFault, Memory}
-use Rattle.command_files.specs.Ends.{IsStruckFor, call_of}
+use Rattle.command_files.specs.declared.fault.CommandFault.{CommandFault}
+use Rattle.command_files.specs.declared.fault.CommandFault.TheVariants as fault
+use Rattle.command_files.specs.declared.fault.CommandFault.TheVariants.{HostFault, Memory}
+use Rattle.command_files.specs.Ends.{IsStruckFor, IsReadToEnd, call_of}
+use Rattle.command_files.specs.declared.fault.RowsFault.{RowsFault}
+use Rattle.command_files.specs.declared.fault.RowsFault.TheVariants as rows
+use Rattle.command_files.specs.Conversions.{result_of_rows}
 use Rattle.command_files.specs.WholeFiles.{IsEmptied}
 use Rattle.command_files.specs.RowFiles.{IsGiven, HoldsGiven, HoldsGivenFront, RowsEnd}
 use Rattle.command_files.specs.TextFile.{IsTextFile, DesignAnswer}
@@ -28,7 +32,7 @@ use Rattle.command_files.proofs.TextSteps.{same_bytes, one_text}
 use Rattle.text_commands.proofs.SimSteps.{none_missing, not_refused}
 
 -- TEXT couldn't be read, or is refused
-pub order_unread : (text stimulus out : List ℕ) (number : ℕ) (why : Fault) (old new : HostState) → DesignAnswer text old.files (Err why) → new.files ≡ old.files → OrderEnds text stimulus out number (Err why) old new
+pub order_unread : (text stimulus out : List ℕ) (number : ℕ) (why : CommandFault) (old new : HostState) → DesignAnswer text old.files (Err why) → new.files ≡ old.files → OrderEnds text stimulus out number (Err why) old new
 order_unread text stimulus out number (HostFault OpenInput) old new answer files = files
 order_unread text stimulus out number (HostFault Next) old new answer files = inl files
 order_unread text stimulus out number (HostFault OpenOutput) old new answer files = absurd answer
@@ -55,7 +59,7 @@ module _ (text stimulus out : List ℕ) (number : ℕ) (files : Files) (design :
           settled = g.settled;
           run = g.run;
           printed = g.shown;
-          every = λ begun reads after zero orders. every (λ name. 0) begun (map cycle_at cycles.items) g.settled reads after 0 0 number zero g.run orders;
+          every = λ begun reads ends zero orders. every (λ name. 0) begun (map cycle_at cycles.items) g.settled reads ends 0 0 number zero g.run orders;
         };
       }
 
@@ -65,20 +69,21 @@ module _ (text stimulus out : List ℕ) (number : ℕ) (files : Files) (design :
   holds_front : (new : Files) → HoldsGivenFront (GivesFrom m) stimulus out files new → HoldsDrawnFront text stimulus out number files new
   holds_front new given = record { bytes = given.text; last = given.last; output = output given.text given.last given.given; written = given.written }
 
-  pub order_ends : (result : Result (Unit {0}) Fault) (old middle new : HostState) → old.files ≡ files → middle.files ≡ files → RowsEnd (GivesFrom m) stimulus out result middle new → OrderEnds text stimulus out number result old new
-  order_ends (Ok done) old middle new same_old same ends = rw (same_old) (record {
+  pub order_ends : (result : Result (Unit {0}) RowsFault) (old middle new : HostState) → old.files ≡ files → middle.files ≡ files → IsReadToEnd text old new → RowsEnd (GivesFrom m) stimulus out result middle new → (IsReadToEnd stimulus middle new → IsReadToEnd stimulus old new) → OrderEnds text stimulus out number (result_of_rows result) old new
+  order_ends (Ok done) old middle new same_old same text_ended ends later = rw (same_old) (record {
     holds = holds None new.files (subst (λ (f : Files). HoldsGiven (GivesFrom m) stimulus out None f new.files) same ends.holds);
+    text_ended = text_ended;
+    ended = later ends.ended;
     input = ends.read;
     end = ends.end;
   })
-  order_ends (Err (fault.Line why)) old middle new same_old same ends = rw (same_old) (holds (Some why) new.files (subst (λ (f : Files). HoldsGiven (GivesFrom m) stimulus out (Some why) f new.files) same ends))
-  order_ends (Err (HostFault OpenInput)) old middle new same_old same ends = ends ∙ same ∙ sym same_old
-  order_ends (Err (HostFault OpenOutput)) old middle new same_old same ends = subst (λ (f : Files). IsEmptied out f new.files) (same ∙ sym same_old) ends
-  order_ends (Err (HostFault Next)) old middle new same_old same ends = inr (rw (same_old) (holds_front new.files (subst (λ (f : Files). HoldsGivenFront (GivesFrom m) stimulus out f new.files) same ends)))
-  order_ends (Err (HostFault Put)) old middle new same_old same ends = rw (same_old) (holds_front new.files (subst (λ (f : Files). HoldsGivenFront (GivesFrom m) stimulus out f new.files) same ends))
-  order_ends (Err Memory) old middle new same_old same (inl unchanged) = inl (unchanged ∙ same ∙ sym same_old)
-  order_ends (Err Memory) old middle new same_old same (inr ends) = inr (rw (same_old) (holds_front new.files (subst (λ (f : Files). HoldsGivenFront (GivesFrom m) stimulus out f new.files) same ends)))
-  order_ends (Err _) old middle new same_old same ends = absurd ends
+  order_ends (Err (rows.Line why)) old middle new same_old same text_ended ends later = rw (same_old) (holds (Some why) new.files (subst (λ (f : Files). HoldsGiven (GivesFrom m) stimulus out (Some why) f new.files) same ends))
+  order_ends (Err (rows.HostFault OpenInput)) old middle new same_old same text_ended ends later = ends ∙ same ∙ sym same_old
+  order_ends (Err (rows.HostFault OpenOutput)) old middle new same_old same text_ended ends later = ((design_view design, rw (same_old) read), (ends.0.0, rw (same_old) (sym (ap (λ (f : Files). get f stimulus) same) ∙ ends.0.1)), subst (λ (f : Files). IsEmptied out f new.files) (same ∙ sym same_old) ends.1)
+  order_ends (Err (rows.HostFault Next)) old middle new same_old same text_ended ends later = inr (rw (same_old) (holds_front new.files (subst (λ (f : Files). HoldsGivenFront (GivesFrom m) stimulus out f new.files) same ends)))
+  order_ends (Err (rows.HostFault Put)) old middle new same_old same text_ended ends later = rw (same_old) (holds_front new.files (subst (λ (f : Files). HoldsGivenFront (GivesFrom m) stimulus out f new.files) same ends))
+  order_ends (Err rows.Memory) old middle new same_old same text_ended (inl unchanged) later = inl (unchanged ∙ same ∙ sym same_old)
+  order_ends (Err rows.Memory) old middle new same_old same text_ended (inr ends) later = inr (rw (same_old) (holds_front new.files (subst (λ (f : Files). HoldsGivenFront (GivesFrom m) stimulus out f new.files) same ends)))
 
 -- ---- completeness
 
@@ -91,7 +96,7 @@ none_refused text stimulus number files bytes why ready o =
     let e : None ≡ Some why = sym ready.accepted ∙ ap (λ (c : Checked Stimulus). c.fault) cycles ∙ sym o.refused in
     absurd (cc)
 
-pub order-complete : (text stimulus out : List ℕ) (number : ℕ) (result : Result (Unit {0}) Fault) (old new : HostState) → IsStruckFor (IsTextOrStimulus text stimulus) (call_of result) old new
+pub order-complete : (text stimulus out : List ℕ) (number : ℕ) (result : Result (Unit {0}) CommandFault) (old new : HostState) → IsStruckFor (IsTextOrStimulus text stimulus) (call_of result) old new
     → OrderEnds text stimulus out number result old new → AreSimFiles text stimulus old.files → ¬ IsRisen old.struck new.struck → IsOkUnless result Memory
 order-complete text stimulus out number (Ok done) old new struck ends ready unstruck = tt
 order-complete text stimulus out number (Err Memory) old new struck ends ready unstruck = refl

@@ -1,10 +1,11 @@
 // The command `order`.
-ghost use Rattle.std.specs.Prelude.{◌≡◌, ◌≢◌, Err, IsTrue};
+ghost use Rattle.std.specs.Prelude.{◌≡◌, ◌≢◌, IfErr, IsTrue};
+ghost use Rattle.command_files.specs.Conversions.{IsPlain};
 ghost use Rattle.command_files.specs.Ends.{EndsWith, call_of};
 ghost use Rattle.text_commands.specs.Order.{OrderEnds};
 ghost use Rattle.text_commands.specs.Sim.{IsTextOrStimulus};
 
-use command_files::{Fault, read_design, stream_rows};
+use command_files::{CommandFault, read_design, stream_rows};
 use mr_values::Host;
 use order_stream::{OrderStream, law_of_every_order};
 use std::alloc::Global;
@@ -18,14 +19,15 @@ pub fn order<H: Host>(
     out: &str,
     number: u64,
     host: &mut H,
-) -> Result<(), Fault>
+) -> Result<(), CommandFault>
     requires { stimulus.now ≢ out.now }
+    ensures plain { IfErr result IsPlain }
     ensures cause { EndsWith (IsTextOrStimulus text.now stimulus.now) (call_of result) (H.state host.old) (H.state host.new) }
-    ensures command { result ≢ Err Fault.Usage }
     ensures told { IsTrue (H.state host.old).tells → OrderEnds text.now stimulus.now out.now number result (H.state host.old) (H.state host.new) }
 {
-    law_of_every_order();
     let design = read_design(alloc, host, text)?;
+    law_of_every_order(&design);
     let mut stream = OrderStream::start(alloc, &design, number)?;
-    stream_rows(alloc, host, stimulus, out, &mut stream)
+    stream_rows(alloc, host, stimulus, out, &mut stream)?;
+    Ok(())
 }

@@ -1,9 +1,10 @@
 // The command `sim`.
-ghost use Rattle.std.specs.Prelude.{◌≢◌, Err, IsTrue};
+ghost use Rattle.std.specs.Prelude.{◌≢◌, IfErr, IsTrue};
+ghost use Rattle.command_files.specs.Conversions.{IsPlain};
 ghost use Rattle.command_files.specs.Ends.{EndsWith, call_of};
 ghost use Rattle.text_commands.specs.Sim.{SimEnds, IsTextOrStimulus};
 
-use command_files::{Fault, read_design, stream_rows};
+use command_files::{CommandFault, read_design, stream_rows};
 use mr_values::Host;
 use sim_stream::SimStream;
 use std::alloc::Global;
@@ -18,13 +19,14 @@ pub fn sim<H: Host>(
     stimulus: &str,
     out: &str,
     host: &mut H,
-) -> Result<(), Fault>
+) -> Result<(), CommandFault>
     requires { stimulus.now ≢ out.now }
+    ensures plain { IfErr result IsPlain }
     ensures cause { EndsWith (IsTextOrStimulus text.now stimulus.now) (call_of result) (H.state host.old) (H.state host.new) }
-    ensures command { result ≢ Err Fault.Usage }
     ensures told { IsTrue (H.state host.old).tells → SimEnds text.now stimulus.now out.now result (H.state host.old) (H.state host.new) }
 {
     let design = read_design(alloc, host, text)?;
     let mut stream = SimStream::start(alloc, &design)?;
-    stream_rows(alloc, host, stimulus, out, &mut stream)
+    stream_rows(alloc, host, stimulus, out, &mut stream)?;
+    Ok(())
 }

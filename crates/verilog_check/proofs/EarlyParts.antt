@@ -6,7 +6,7 @@ use Rattle.std.specs.Option.{option_map}
 use Rattle.verilog_tree.specs.declared.tree.Signal.{Signal}
 use Rattle.verilog_tree.specs.declared.fault.ModuleFault.TheVariants.{NoDriver, Redeclared, ManyDrivers}
 use Rattle.verilog_tree.specs.Tree.{Design}
-use Rattle.verilog_tree.specs.Checks.{Drive, or_else, named, declarations, drives, needs_driver, first_shared, redeclared, many_drivers, no_driver, filter_face, early_fault}
+use Rattle.verilog_tree.specs.Checks.{Drive, or_else, named, declarations, drives, needs_driver, first_shared, redeclared, many_drivers, no_driver, Face, early_fault}
 use Rattle.verilog_check.specs.Early.{name_fault, driver_fault}
 
 pub without_first : {A : Type 0} (a b : Option A) → a ≡ None → or_else a b ≡ b
@@ -23,5 +23,5 @@ driver_fault_is d shared undriven all ordered all_is ordered_is shared_is none u
     undriven_is ∙ ap (λ (xs : List Drive). undriven_among xs ordered) all_is ∙ ap (undriven_among (drives d)) ordered_is in
     without_first (named d ManyDrivers (many_drivers d)) (named d NoDriver (no_driver d)) (ap (named d ManyDrivers) none_shared) ∙ ap (named d NoDriver) (sym rest)
 
-pub early_fault_is : (d : Design) → redeclared d ≡ None → name_fault d ≡ early_fault filter_face d
-early_fault_is d none = sym (without_first (named d Redeclared (redeclared d)) (name_fault d) (ap (named d Redeclared) none))
+pub early_fault_is : (face : Face) (d : Design) → redeclared d ≡ None → name_fault face d ≡ early_fault face d
+early_fault_is face d none = sym (without_first (named d Redeclared (redeclared d)) (name_fault face d) (ap (named d Redeclared) none))

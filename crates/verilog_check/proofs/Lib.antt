@@ -6,5 +6,6 @@ pub mod Passing
 pub mod PlaceOrder
 pub mod Repeating
 pub mod TableTurns
+pub mod Totality
 pub mod Walks
 pub mod WidthTurns

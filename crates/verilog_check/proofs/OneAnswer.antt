@@ -7,7 +7,7 @@ use Rattle.verilog_tree.specs.declared.fault.ModuleFault.{ModuleFault}
 use Rattle.verilog_tree.specs.declared.fault.ModuleFault.TheVariants.{Redeclared, Undeclared, PortShape, WrongKind, WidthOver, BadSelect, ManyDrivers, NoDriver, CombLoop, Memory}
 use Rattle.verilog_tree.specs.Tree.{Design}
 use Rattle.verilog_tree.specs.Names.{text_of}
-use Rattle.verilog_tree.specs.Checks.{declarations, DependsOnItself, IsFirstLoop, IsLoopFault, Passes, Fails, Early, Loop}
+use Rattle.verilog_tree.specs.Checks.{declarations, DependsOnItself, IsFirstLoop, IsLoopFault, Face, PassesAs, FailsAs, Early, Loop}
 
 module _ (d : Design) where
   record IsLoop (fault : ModuleFault) : Type 0 where
@@ -27,7 +27,7 @@ module _ (d : Design) where
   loop_of (NoDriver name) none = absurd none
   loop_of Memory none = absurd none
 
-  pub excluded : (fault : ModuleFault) → Passes d → Fails d fault → ⊥
+  pub excluded : {face : Face} (fault : ModuleFault) → PassesAs face d → FailsAs face d fault → ⊥
   excluded fault passes (Early is) = let early = passes.early in cc
   excluded fault passes (Loop none is) = let found = loop_of fault is in passes.free found.name (found.first).loops
 
@@ -48,7 +48,7 @@ module _ (d : Design) where
           let same : f.signal ≡ g.signal = cc in
           sym f.name ∙ ap (λ (s : Signal). s.name) same ∙ g.name
 
-  pub one_fault : (fault other : ModuleFault) → Fails d fault → Fails d other → fault ≡ other
+  pub one_fault : {face : Face} (fault other : ModuleFault) → FailsAs face d fault → FailsAs face d other → fault ≡ other
   one_fault fault other (Early is) (Early also) = cc
   one_fault fault other (Early is) (Loop none also) = absurd (cc)
   one_fault fault other (Loop none is) (Early also) = absurd (cc)

@@ -6,14 +6,14 @@ use Rattle.std.proofs.lemmas.Option.{slice_get_within}
 use Rattle.verilog_tree.specs.declared.tree.Signal.{Signal}
 use Rattle.verilog_tree.specs.Tree.{Tree, Trees, Name, Bit, Part, Plain, Based, Cat, Not, Binary, Shift, Choice, none, more, Assignment, Design}
 use Rattle.verilog_tree.specs.Cycle.{IsDrivenOnce}
-use Rattle.verilog_tree.specs.Checks.{Use, used_name, tree_uses, trees_uses, assigns_uses, blocks_uses, uses, is_declared, declarations, filter_face, early_fault}
+use Rattle.verilog_tree.specs.Checks.{Use, used_name, tree_uses, trees_uses, assigns_uses, blocks_uses, uses, is_declared, declarations, Face, early_fault}
 use Rattle.module_laws.proofs.TextOrder.{Every, from_order, nothing_found}
 use Rattle.module_laws.proofs.Passing.{none_fails, none_mapped}
 use Rattle.module_laws.proofs.DrivenOnce.{driven_once}
 use Rattle.loop_search.specs.Loops.{AreDeclared}
 
-pub driven_of : (d : Design) → early_fault filter_face d ≡ None → IsDrivenOnce d
-driven_of d early = driven_once d (none_fails filter_face d early).drivers
+pub driven_of : (face : Face) (d : Design) → early_fault face d ≡ None → IsDrivenOnce d
+driven_of face d early = driven_once d (none_fails face d early).drivers
 
 -- ---- what holds of each use holds of those behind an expression
 
@@ -68,9 +68,9 @@ declared_at d n known = by (find (λ (s : Signal). s.name == n) (declarations d)
         let absent = ap (λ (o : Option Signal). not (is_some o)) (finds_none (λ (s : Signal). s.name == n) d.signals all) in
         absurd (cc)
 
-pub declared_of : (d : Design) → early_fault filter_face d ≡ None → AreDeclared d
-declared_of d early = record {
+pub declared_of : (face : Face) (d : Design) → early_fault face d ≡ None → AreDeclared d
+declared_of face d early = record {
   each = λ k a at.
       declared_at d a.target (known_targets d d.assigns (blocks_uses d.blocks)
-      (nothing_found (λ u. not (is_declared d (used_name u))) (uses d) (none_mapped used_name _ (none_fails filter_face d early).undeclares)) k a at);
+      (nothing_found (λ u. not (is_declared d (used_name u))) (uses d) (none_mapped used_name _ (none_fails face d early).undeclares)) k a at);
 }

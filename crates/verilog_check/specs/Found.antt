@@ -2,9 +2,9 @@
 use Rattle.std.specs.Prelude.{Option, None, Some}
 use Rattle.verilog_tree.specs.declared.fault.ModuleFault.{ModuleFault}
 use Rattle.verilog_tree.specs.Tree.{Design}
-use Rattle.verilog_tree.specs.Checks.{Passes, Fails}
+use Rattle.verilog_tree.specs.Checks.{Face, PassesAs, FailsAs}
 
--- the first check that fails, or that all pass
-abbrev pub IsFaultOf : Design → Option ModuleFault → Type 0
-IsFaultOf d None = Passes d
-IsFaultOf d (Some fault) = Fails d fault
+-- the first check that fails, or that all pass, with the ports of a face
+abbrev pub IsFaultOf : Face → Design → Option ModuleFault → Type 0
+IsFaultOf face d None = PassesAs face d
+IsFaultOf face d (Some fault) = FailsAs face d fault

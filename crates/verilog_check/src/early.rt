@@ -4,15 +4,17 @@ ghost use Rattle.std.specs.Prelude.{◌≡◌, IfOk, map};
 ghost use Rattle.std.specs.Option.{option_map};
 ghost use Rattle.verilog_tree.specs.Names.{text_of};
 ghost use Rattle.verilog_tree.specs.Checks as checks;
-ghost use Rattle.verilog_tree.specs.Checks.{declarations, filter_face, wrong_port, width_over, early_fault};
+ghost use Rattle.verilog_tree.specs.Checks.{declarations, wrong_port, width_over, early_fault};
 ghost use Rattle.verilog_tree.specs.View.{design_view};
 ghost use Rattle.verilog_check.specs.Early.{name_fault, size_fault, driver_fault};
+ghost use Rattle.verilog_check.specs.Faces.{face_of};
 ghost use Rattle.verilog_check.specs.Telling.{Tells};
 ghost use Rattle.verilog_check.specs.Uses.{use_view};
 ghost use Rattle.verilog_check.specs.Widths.{told_view};
 
 use crate::declared::{Declared, declared_in, text_of};
 use crate::drives::{drives_of, first_shared};
+use crate::face::Face;
 use crate::repeats::first_redeclared;
 use crate::signal_checks::{first_missing_port, first_over, first_undriven, first_wrong_port};
 use crate::use_checks::{UseCheck, first_failing};
@@ -42,17 +44,18 @@ fn told_text(alloc: Global, design: &Module, told: Told) -> Result<Text, Memory>
 // The first port that is wrong or missing.
 fn port_fault(
     alloc: Global,
+    face: Face,
     design: &Module,
     ordered: &[Signal],
 ) -> Result<Option<ModuleFault>, Memory>
     requires { ordered.now ≡ declarations (design_view design.now) }
-    ensures { IfOk result (λ fault. fault ≡ option_map ModuleFault.PortShape (wrong_port filter_face (design_view design.now))) }
+    ensures { IfOk result (λ fault. fault ≡ option_map ModuleFault.PortShape (wrong_port (face_of face) (design_view design.now))) }
 {
-    if let Some(name) = first_wrong_port(design, ordered) {
+    if let Some(name) = first_wrong_port(face, design, ordered) {
         let name = name_text(alloc, design, name)?;
         return Ok(Some(ModuleFault::PortShape { name }));
     }
-    match first_missing_port(design) {
+    match first_missing_port(face, design) {
         Some(text) => {
             let name = Text::from_str(alloc, text)?;
             Ok(Some(ModuleFault::PortShape { name }))
@@ -132,6 +135,7 @@ fn size_fault(
 // The first fault of the checks from that of undeclared names on.
 fn name_fault(
     alloc: Global,
+    face: Face,
     declared: &Declared<'_>,
     ordered: &[Signal],
     uses: &[Use],
@@ -139,13 +143,13 @@ fn name_fault(
     requires tells { Tells declared.now }
     requires ordered { ordered.now ≡ declarations (design_view declared.now.design.now) }
     requires uses { map use_view uses.now ≡ checks.uses (design_view declared.now.design.now) }
-    ensures { IfOk result (λ fault. fault ≡ name_fault (design_view declared.now.design.now)) }
+    ensures { IfOk result (λ fault. fault ≡ name_fault (face_of face) (design_view declared.now.design.now)) }
 {
     if let Some(name) = first_failing(declared, UseCheck::Undeclared, uses) {
         let name = name_text(alloc, declared.design, name)?;
         return Ok(Some(ModuleFault::Undeclared { name }));
     }
-    if let Some(fault) = port_fault(alloc, declared.design, ordered)? {
+    if let Some(fault) = port_fault(alloc, face, declared.design, ordered)? {
         return Ok(Some(fault));
     }
     if let Some(name) = first_failing(declared, UseCheck::WrongKind, uses) {
@@ -155,14 +159,16 @@ fn name_fault(
     size_fault(alloc, declared, ordered, uses)
 }
 
-/// The first check before that of loops that a module fails. Takes the declarations in text order. Fails only for want of memory.
+/// The first check before that of loops that a module with the ports of a face fails. Takes the declarations in text order. Fails only
+/// for want of memory.
 pub(crate) fn early_check(
     alloc: Global,
+    face: Face,
     design: &Module,
     ordered: &[Signal],
 ) -> Result<Option<ModuleFault>, Memory>
     requires { ordered.now ≡ declarations (design_view design.now) }
-    ensures { IfOk result (λ fault. fault ≡ early_fault filter_face (design_view design.now)) }
+    ensures { IfOk result (λ fault. fault ≡ early_fault (face_of face) (design_view design.now)) }
 {
     if let Some(name) = first_redeclared(alloc, ordered)? {
         let name = name_text(alloc, design, name)?;
@@ -170,5 +176,5 @@ pub(crate) fn early_check(
     }
     let declared = declared_in(alloc, design)?;
     let uses = uses_of(alloc, design)?;
-    name_fault(alloc, &declared, ordered, &uses)
+    name_fault(alloc, face, &declared, ordered, &uses)
 }

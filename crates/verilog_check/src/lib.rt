@@ -4,6 +4,7 @@
 mod declared;
 mod drives;
 mod early;
+mod face;
 mod laws;
 mod repeats;
 mod signal_checks;
@@ -13,8 +14,5 @@ mod uses;
 mod whole;
 mod widths;
 
-pub use laws::{law_of_exclusion, law_of_one_fault};
-pub use whole::check;
-
-#[cfg(test)]
-mod tests;
+pub use laws::{law_of_exclusion, law_of_one_fault, law_of_totality};
+pub use whole::{check, check_stream};

@@ -5,13 +5,16 @@ ghost use Rattle.std.specs.List.{list_any};
 ghost use Rattle.std.specs.Option.{option_map, option_copied};
 ghost use Rattle.std.specs.HashSet.{contains};
 ghost use Rattle.verilog_tree.specs.Checks as checks;
-ghost use Rattle.verilog_tree.specs.Checks.{is_port, is_input_port, is_bit_port, is_data_port, Port, filter_face, is_as, is_right_port, has_port, port_names, needs_driver, is_over};
+ghost use Rattle.verilog_tree.specs.Checks.{is_port, is_input_port, is_bit_port, is_data_port, Port, filter_face, is_as, is_right_port, has_port, face_names, needs_driver, is_over};
 ghost use Rattle.verilog_tree.specs.declared.tree.Signal.{Signal};
+ghost use Rattle.verilog_tree.specs.Streamed.{stream_face};
 ghost use Rattle.verilog_tree.specs.View.{design_view};
 ghost use Rattle.verilog_check.specs.Drives.{drive_view};
+ghost use Rattle.verilog_check.specs.Faces.{face_of};
 
 use crate::declared::text_of;
 use crate::drives::{Drive, driven_names};
+use crate::face::Face;
 use mr_values::Memory;
 use std::alloc::Global;
 use std::collections::HashSet;
@@ -74,18 +77,42 @@ fn is_filter_port(text: &str, signal: Signal) -> bool
                         || is_as("out_data", false, false, text, signal)))))
 }
 
-fn is_wrong_port(design: &Module, signal: Signal) -> bool
-    ensures { result ≡ (is_port signal.kind && not (is_right_port filter_face (design_view design.now) signal)) }
+// Whether a signal of this text is declared as one of the ports of a module with ready and valid.
+fn is_stream_port(text: &str, signal: Signal) -> bool
+    ensures { result ≡ list_any (λ (p : Port). is_as p text.now signal) stream_face }
 {
-    is_port(signal.kind) && !is_filter_port(text_of(design, signal.name), signal)
+    is_as("clk", true, true, text, signal)
+        || (is_as("rst", true, true, text, signal)
+            || (is_as("in_valid", true, true, text, signal)
+                || (is_as("in_ready", false, true, text, signal)
+                    || (is_as("in_data", true, false, text, signal)
+                        || (is_as("out_valid", false, true, text, signal)
+                            || (is_as("out_ready", true, true, text, signal)
+                                || is_as("out_data", false, false, text, signal)))))))
 }
 
-/// The name of the first port that is not one of a filter.
-pub(crate) fn first_wrong_port(design: &Module, ordered: &[Signal]) -> Option<usize>
-    ensures { result ≡ option_map (λ (s : Signal). s.name) (find (λ (s : Signal). is_port s.kind && not (is_right_port filter_face (design_view design.now) s)) ordered.now) }
+// Whether a signal of this text is declared as one of the ports of a face.
+fn is_right_port(face: Face, text: &str, signal: Signal) -> bool
+    ensures { result ≡ list_any (λ (p : Port). is_as p text.now signal) (face_of face) }
+{
+    match face {
+        Face::Filter => is_filter_port(text, signal),
+        Face::Stream => is_stream_port(text, signal),
+    }
+}
+
+fn is_wrong_port(face: Face, design: &Module, signal: Signal) -> bool
+    ensures { result ≡ (is_port signal.kind && not (is_right_port (face_of face) (design_view design.now) signal)) }
+{
+    is_port(signal.kind) && !is_right_port(face, text_of(design, signal.name), signal)
+}
+
+/// The name of the first port that is not one of a face.
+pub(crate) fn first_wrong_port(face: Face, design: &Module, ordered: &[Signal]) -> Option<usize>
+    ensures { result ≡ option_map (λ (s : Signal). s.name) (find (λ (s : Signal). is_port s.kind && not (is_right_port (face_of face) (design_view design.now) s)) ordered.now) }
 {
     for signal in ordered {
-        if is_wrong_port(design, *signal) {
+        if is_wrong_port(face, design, *signal) {
             return Some(signal.name);
         }
     }
@@ -98,9 +125,9 @@ fn has_port(design: &Module, text: &str) -> bool
     design.signals.iter().any(|signal| is_port(signal.kind) && text_of(design, signal.name) == text)
 }
 
-/// The first port of a filter that is missing.
-pub(crate) fn first_missing_port(design: &Module) -> Option<&'static str>
-    ensures { option_copied result ≡ find (λ text. not (has_port (design_view design.now) text)) port_names }
+// The first port of a filter that is missing.
+fn first_missing_of_filter(design: &Module) -> Option<&'static str>
+    ensures { option_copied result ≡ find (λ text. not (has_port (design_view design.now) text)) (face_names filter_face) }
 {
     if !has_port(design, "clk") {
         Some("clk")
@@ -116,6 +143,41 @@ pub(crate) fn first_missing_port(design: &Module) -> Option<&'static str>
         Some("out_data")
     } else {
         None
+    }
+}
+
+// The first port of a module with ready and valid that is missing.
+fn first_missing_of_stream(design: &Module) -> Option<&'static str>
+    ensures { option_copied result ≡ find (λ text. not (has_port (design_view design.now) text)) (face_names stream_face) }
+{
+    if !has_port(design, "clk") {
+        Some("clk")
+    } else if !has_port(design, "rst") {
+        Some("rst")
+    } else if !has_port(design, "in_valid") {
+        Some("in_valid")
+    } else if !has_port(design, "in_ready") {
+        Some("in_ready")
+    } else if !has_port(design, "in_data") {
+        Some("in_data")
+    } else if !has_port(design, "out_valid") {
+        Some("out_valid")
+    } else if !has_port(design, "out_ready") {
+        Some("out_ready")
+    } else if !has_port(design, "out_data") {
+        Some("out_data")
+    } else {
+        None
+    }
+}
+
+/// The first port of a face that is missing.
+pub(crate) fn first_missing_port(face: Face, design: &Module) -> Option<&'static str>
+    ensures { option_copied result ≡ find (λ text. not (has_port (design_view design.now) text)) (face_names (face_of face)) }
+{
+    match face {
+        Face::Filter => first_missing_of_filter(design),
+        Face::Stream => first_missing_of_stream(design),
     }
 }
 

@@ -1,3 +1,4 @@
 pub mod Reader
 pub mod Places
 pub mod Answer
+pub mod FaultLines

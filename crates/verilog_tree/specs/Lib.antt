@@ -11,3 +11,5 @@ pub mod Alike
 pub mod Laws
 pub mod Renaming
 pub mod Checks
+pub mod FaultLines
+pub mod Streamed

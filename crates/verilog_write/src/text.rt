@@ -19,6 +19,7 @@ use crate::declaration::{write_declarations, write_ports};
 use crate::expression::{put, put_mark};
 use crate::item::{write_assigns, write_blocks};
 use crate::statement::put_word;
+use formed_module::FormedModule;
 use mr_values::{Memory, Text};
 use std::alloc::Global;
 use verilog_text::token::{Mark, Token, Word};
@@ -86,51 +87,23 @@ fn bytes_of(alloc: Global, names: &[Text], tokens: &[Token]) -> Result<Vec<u8>, 
     Ok(bytes)
 }
 
-/// The text of a module: a line for each port, declaration, assignment and block. It fails only for want of memory.
-pub fn text_of(alloc: Global, module: &Module) -> Result<Vec<u8>, Memory>
+// The text of a module that has a writing.
+fn text_of_tree(alloc: Global, module: &Module) -> Result<Vec<u8>, Memory>
     requires { IsWritable limits (design_view module.now) }
-    // The text reads as a module that is alike, whose wires and registers stand in their order behind the ports.
     ensures reads { IfOk result (λ text. (design : Design) × Reads text.items design × IsAlike design (design_view module.now) × Along (IsAlikeSignal (SameName design.names (design_view module.now).names)) design.signals (ordered_signals (design_view module.now))) }
-
-    // Where the names are numbered as they are declared, the ports first, the module itself is read back, but for places.
     ensures same { IsInOrder (design_view module.now) → IfOk result (λ text. (design : Design) × Reads text.items design × IsSameButPlaces design (design_view module.now)) }
 {
     let tokens = tokens_of(alloc, module)?;
     bytes_of(alloc, &module.names, &tokens)
 }
 
-#[cfg(test)]
-mod tests {
-    use super::*;
-    use std::test::Fail;
-    use verilog_tree::{Kind, Signal};
+/// The text of a module: a line for each port, declaration, assignment and block. It fails only for want of memory.
+pub fn text_of(alloc: Global, module: &FormedModule) -> Result<Vec<u8>, Memory>
+    // The text reads as a module that is alike, whose wires and registers stand in their order behind the ports.
+    ensures reads { IfOk result (λ text. (design : Design) × Reads text.items design × IsAlike design (design_view module.now) × Along (IsAlikeSignal (SameName design.names (design_view module.now).names)) design.signals (ordered_signals (design_view module.now))) }
 
-    #[test]
-    fn a_clock_alone(rt: HostRuntime) -> Result<(), Fail> {
-        let alloc = rt.alloc();
-        let mut names = Vec::new(alloc);
-        names.push(Text::from_str(alloc, "m")?)?;
-        names.push(Text::from_str(alloc, "clk")?)?;
-        let mut signals = Vec::new(alloc);
-        signals.push(Signal {
-            name: 1,
-            kind: Kind::Input,
-            signed: false,
-            ranged: false,
-            width: 1,
-            place: 0,
-        })?;
-        let design = Module {
-            name: 0,
-            names,
-            signals,
-            assigns: Vec::new(alloc),
-            blocks: Vec::new(alloc),
-        };
-        let text = text_of(alloc, &design)?;
-        let expected =
-            b"/* verilator lint_off WIDTH */\n// Wadrelion\nmodule m (input clk);\nendmodule\n";
-        assert_eq!(rt; text.as_slice(), expected.as_slice());
-        Ok(())
-    }
+    // Where the names are numbered as they are declared, the ports first, the module itself is read back, but for places.
+    ensures same { IsInOrder (design_view module.now) → IfOk result (λ text. (design : Design) × Reads text.items design × IsSameButPlaces design (design_view module.now)) }
+{
+    text_of_tree(alloc, module.tree())
 }

@@ -118,7 +118,7 @@ form-within transform w most form h = record {
 
 -- ---- what a table's weights are
 
-minus_one-fits : (w : ℕ) → FitsWidth w (negsuc 0)
+pub minus_one-fits : (w : ℕ) → FitsWidth w (negsuc 0)
 minus_one-fits w = record { low = omega (arith, ints, pow_pos (w - 1)); high = omega (arith, ints, pow_pos (w - 1)) }
 
 pub weights-small : (transform : Sequence → Sequence) (f : Responses) (classes step w most : ℕ) → HasResponses transform f classes step → AreWithin (IsStream transform w) most

@@ -1,14 +1,13 @@
 -- The finer class whose end is furthest out, and the index at which it is reached.
-use Rattle.std.proofs.Common.{◌≡◌, ◌∙◌, ℕ, zero, suc, ◌+◌, ◌-◌, ◌*◌, ◌<◌, refl, sym, ap, arith, subst, List, length, get_or, replicate, ℤ, pos, ◌⊎◌, inl, inr, Bool, true, false, length-append}
+use Rattle.std.proofs.Common.{◌≡◌, ◌∙◌, ℕ, zero, suc, ◌+◌, ◌-◌, ◌*◌, ◌<◌, refl, sym, ap, arith, subst, List, length, get_or, ℤ, pos, ◌⊎◌, inl, inr, Bool, true, false}
 use Rattle.std.proofs.lemmas.Int.{ints}
-use Rattle.std.proofs.lemmas.List.{length-replicate}
 use Rattle.mr_values.specs.Timing.{low_end}
 use Rattle.mr_values.specs.Value.{size}
 use Rattle.mr_values.specs.Width.{FitsWidth}
 use Rattle.stage_law.specs.Range.{InClass}
 use Rattle.stage_law.specs.Weights.{weights_of}
 use Rattle.stage_law.specs.declared.ranges.Class.{Class}
-use Rattle.stage_law.specs.declared.ranges.WeightedSum.{WeightedSum}
+use Rattle.stage_law.specs.declared.weights.WeightedSum.{WeightedSum}
 use Rattle.impulse_phase.specs.declared.table.Response.{Response as Table}
 use Rattle.impulse_phase.specs.Response.{through_filter}
 use Rattle.impulse_phase.specs.Reading.{rows_of, responses_of}
@@ -86,7 +85,7 @@ end_at-is false width form table k = refl
 
 pub far-end : (table : Table) (width longest : ℕ) (sum : WeightedSum) (class : Class) (high : Bool) (finer index : ℕ) (value : ℤ) → IsLawful table → IsLongest table longest → class.residue < class.modulus
     → IsFurthest high (λ i. end_at high width (weights_of sum) (responses_of table) (class.residue + i * class.modulus)) (finer_classes (length (rows_of table)) class.modulus) finer value
-    → IsPast (class.residue + finer * class.modulus) (whole_of table class) (needed_for table longest sum.behind (length sum.weights.items)) index
+    → IsPast (class.residue + finer * class.modulus) (whole_of table class) (needed_for table longest (length (weights_of sum))) index
     → IsEndReached table width longest sum class high (samples_at table width (weights_of sum) high index) index value
 far-end table width longest sum class high finer index value law long below furthest past =
     subst (λ (xs : List ℤ). IsEndReached table width longest sum class high xs index value) (history-is table width reach.newest index form high reach.newest_is) (record {
@@ -106,11 +105,8 @@ far-end table width longest sum class high finer index value law long below furt
     first : ℕ
     first = class.residue + finer * class.modulus
 
-    size_is : length form ≡ sum.behind + length sum.weights.items
-    size_is = omega (arith, length-append (replicate sum.behind (pos 0)) sum.weights.items, length-replicate sum.behind (pos 0))
-
     reach : Chosen table width form (near_end high width) (far_end high width) index
-    reach = chosen-reach table longest width index (sum.behind + length sum.weights.items) form (near_end high width) (far_end high width) law long (omega (arith, size_is)) past.enough (near-fits high width) (far-fits high width)
+    reach = chosen-reach table longest width index (length form) form (near_end high width) (far_end high width) law long (omega arith) past.enough (near-fits high width) (far-fits high width)
 
     same : (through_filter form (responses_of table) (pos index)).weights ≡ (through_filter form (responses_of table) (pos first)).weights
     same = ap (λ (n : ℕ). (through_filter form (responses_of table) (pos n)).weights) past.is ∙ same-later table form class first past.rounds law

@@ -5,7 +5,6 @@ use Rattle.std.proofs.lemmas.Nat.{div_below}
 use Rattle.impulse_phase.specs.declared.table.Response.{Response as Table}
 use Rattle.impulse_phase.specs.Reading.{rows_of}
 use Rattle.impulse_phase.proofs.Tables.{count_of}
-use Rattle.width_extreme.specs.Walk.{needed_for}
 use Rattle.width_extreme.proofs.Lawful.{rows-some}
 
 pub few-classes : (table : Table) → length (rows_of table) ≤ 2 ^ 32
@@ -16,9 +15,6 @@ classes-times table longest small = mul-le-mul_left (length (rows_of table)) (om
 
 pub classes-room : (table : Table) → length (rows_of table) * 2 ^ 64 ≤ 2 ^ 96
 classes-room table = omega (arith, few-classes table)
-
-pub needed-near : (table : Table) (longest back factors : ℕ) → longest < 2 ^ 64 → back < 2 ^ 64 → factors < 2 ^ 64 → needed_for table longest back factors ≤ length (rows_of table) * 2 ^ 64 + 2 ^ 65
-needed-near table longest back factors small few short = omega (arith, classes-times table longest small, few, short)
 
 -- so many classes hold few rounds
 pub rounds-few : (table : Table) (index : ℕ) → index ≤ length (rows_of table) * 2 ^ 64 + 2 ^ 66 → index / length (rows_of table) < 2 ^ 67

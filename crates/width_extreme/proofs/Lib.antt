@@ -13,3 +13,4 @@ pub mod Samples
 pub mod Streams
 pub mod Walk
 pub mod Walked
+pub mod OneWeight

@@ -1,5 +1,5 @@
 -- The weights of a sum, place by place, over the rows that reach a place.
-use Rattle.std.proofs.Common.{◌≡◌, ℕ, zero, suc, ◌+◌, ◌-◌, ◌*◌, ◌/◌, ◌%◌, ◌^◌, ◌<◌, ◌≤◌, List, [], ◌∷◌, ◌++◌, length, drop, get_or, map, replicate, ℤ, pos, negsuc, unsigned_abs, ◌+ℤ◌, ◌-ℤ◌, ◌*ℤ◌, ◌≤ℤ◌, arith, refl, sym, ◌∙◌, ap, subst}
+use Rattle.std.proofs.Common.{◌≡◌, ℕ, zero, suc, ◌+◌, ◌-◌, ◌*◌, ◌/◌, ◌%◌, ◌^◌, ◌<◌, ◌≤◌, List, [], ◌∷◌, length, drop, get_or, map, ℤ, pos, negsuc, unsigned_abs, ◌+ℤ◌, ◌-ℤ◌, ◌*ℤ◌, ◌≤ℤ◌, arith, refl, sym, ◌∙◌, ap, subst, length-drop}
 use Rattle.std.proofs.lemmas.Int.{ints, unsigned_abs-mul}
 use Rattle.std.proofs.Math.Nat.{div-le_self, mul-le-mul_left, mul-le-mul_right, mul_comm, mul-add}
 use Rattle.std.proofs.lemmas.Nat.{div-add-mod', mod_below}
@@ -16,22 +16,19 @@ use Rattle.impulse_phase.proofs.Gain.{behind_before, behind_after}
 use Rattle.impulse_phase.proofs.Places.{combined-place}
 use Rattle.impulse_phase.proofs.Tables.{before_is, delay_is}
 use Rattle.span_ranges.proofs.SumLemmas.{room_more}
+use Rattle.stage_law.specs.Rising.{blank, behind_at, factors_in, AreRising, factors_from}
 use Rattle.stage_law.specs.Streams.{magnitudes}
+use Rattle.stage_law.specs.declared.weights.Weight.{Weight}
+use Rattle.stage_law.proofs.WeightLemmas.{sum-in, count-in}
 use Rattle.width_extreme.specs.Walk.{AreSmall, IsLawful, IsLongest, delay_at, weight_back, weights_at, IsEntry}
 
--- ---- zeros before the factors
+-- ---- the weight at a place
 
-sum-after_zeros : (zeros : ℕ) (factors : List ℤ) (f : ℕ → ℤ) → weighted_sum (replicate zeros (pos 0) ++ factors) f ≡ weighted_sum factors (λ k. f (zeros + k))
-sum-after_zeros zero factors f = weighted_sum-same factors _ _ (λ k. ap f (omega arith))
-sum-after_zeros (suc zeros) factors f =
-    let rest = sum-after_zeros zeros factors (λ k. f (suc k)) ∙ weighted_sum-same factors (λ k. f (suc (zeros + k))) (λ k. f (suc zeros + k)) (λ k. ap f (omega arith)) in
-    omega (arith, ints, rest)
-
-pub place-weight : (table : Table) (zeros : ℕ) (factors : List ℤ) (index place : ℕ)
-    → get_or (weights_at table zeros factors index) place (pos 0) ≡ weighted_sum factors (λ k. weight_back table index place (zeros + k))
-place-weight table zeros factors index place =
-    combined-place (responses_of table (pos index)).newest (replicate zeros (pos 0) ++ factors) (λ k. responses_of table (pos index -ℤ pos k)) place
-    ∙ sum-after_zeros zeros factors (λ k. weight_back table index place k)
+pub place-weight : (table : Table) (ws : List Weight) (index place : ℕ) → AreRising ws
+    → get_or (weights_at table (factors_from 0 ws) index) place (pos 0) ≡ weighted_sum (factors_in ws) (λ k. weight_back table index place (behind_at ws k))
+place-weight table ws index place rises =
+    combined-place (responses_of table (pos index)).newest (factors_from 0 ws) (λ k. responses_of table (pos index -ℤ pos k)) place
+    ∙ sum-in ws (λ k. weight_back table index place k) rises
 
 pub sum-of_zeros : (factors : List ℤ) (f : ℕ → ℤ) → ((k : ℕ) → k < length factors → f k ≡ pos 0) → weighted_sum factors f ≡ pos 0
 sum-of_zeros [] f h = refl
@@ -173,13 +170,21 @@ weight-all factors i f weight whole past so_far =
     let none : weighted_sum (drop i factors) (λ k. f (i + k)) ≡ pos 0 = ap (λ (cs : List ℤ). weighted_sum cs (λ k. f (i + k))) (drop_all i factors past) in
     omega (arith, ints, none, so_far)
 
+rising-same : (ws : List Weight) (i j d : ℕ) → AreRising ws → j - i ≡ d → i ≤ j → j < length ws → behind_at ws i ≤ behind_at ws j
+rising-same ws i j zero h e from below = let same : i ≡ j = omega arith in omega (arith, ap (behind_at ws) same)
+rising-same ws i j (suc d) h e from below = omega (arith, h.each i j (omega arith) below)
+
+pub behind-rises : (ws : List Weight) (i j : ℕ) → AreRising ws → i ≤ j → j < length ws → behind_at ws i ≤ behind_at ws j
+behind-rises ws i j h from below = rising-same ws i j (j - i) h refl from below
+
 -- no later factor reaches the place
-pub weight-stops : (table : Table) (index start place i : ℕ) (factors : List ℤ) (weight whole : ℤ) → IsLawful table → place < delay_at table index (start + i)
-    → weight +ℤ weighted_sum (drop i factors) (λ k. weight_back table index place (start + (i + k))) ≡ whole → weight ≡ whole
-weight-stops table index start place i factors weight whole law early so_far =
-    let none : weighted_sum (drop i factors) (λ k. weight_back table index place (start + (i + k))) ≡ pos 0 =
-    sum-of_zeros (drop i factors) (λ k. weight_back table index place (start + (i + k)))
-    (λ k below. too_early table index place (start + (i + k)) (omega (arith, early, delays-rise table index (start + i) (start + (i + k)) law (omega arith)))) in
+pub weight-stops : (table : Table) (index place i : ℕ) (ws : List Weight) (weight whole : ℤ) → IsLawful table → AreRising ws → place < delay_at table index (behind_at ws i)
+    → weight +ℤ weighted_sum (drop i (factors_in ws)) (λ k. weight_back table index place (behind_at ws (i + k))) ≡ whole → weight ≡ whole
+weight-stops table index place i ws weight whole law rises early so_far =
+    let none : weighted_sum (drop i (factors_in ws)) (λ k. weight_back table index place (behind_at ws (i + k))) ≡ pos 0 =
+    sum-of_zeros (drop i (factors_in ws)) (λ k. weight_back table index place (behind_at ws (i + k)))
+    (λ k below. too_early table index place (behind_at ws (i + k))
+    (omega (arith, early, delays-rise table index (behind_at ws i) (behind_at ws (i + k)) law (behind-rises ws i (i + k) rises (omega arith) (omega (arith, below, length-drop i (factors_in ws), count-in ws)))))) in
     omega (arith, ints, none, so_far)
 
 pub weight_back-small : (table : Table) (most index place back : ℕ) → AreSmall table most → unsigned_abs (weight_back table index place back) ≤ most
@@ -221,3 +226,9 @@ newest-pos table class below = at table.rows.items class below
     at [] class h = absurd (omega arith)
     at (row ∷ rows) zero h = (row.newest, refl)
     at (row ∷ rows) (suc class) h = at rows class (omega arith)
+
+-- a weight that was read
+pub read-weight : (ws : List Weight) (i : ℕ) (w : Weight) → i < length ws → w ≡ get_or ws i w → w ≡ get_or ws i blank
+read-weight [] i w h e = absurd (omega arith)
+read-weight (u ∷ ws) zero w h e = e
+read-weight (u ∷ ws) (suc i) w h e = read-weight ws i w (omega arith) e

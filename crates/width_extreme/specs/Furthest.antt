@@ -3,7 +3,7 @@ use Rattle.std.specs.Prelude.{◌≡◌, ℕ, zero, suc, ◌+◌, ◌-◌, ◌*�
 use Rattle.mr_values.specs.Value.{size}
 use Rattle.stage_law.specs.declared.ranges.Class.{Class}
 use Rattle.stage_law.specs.declared.ranges.Range.{Range}
-use Rattle.stage_law.specs.declared.ranges.WeightedSum.{WeightedSum}
+use Rattle.stage_law.specs.declared.weights.WeightedSum.{WeightedSum}
 use Rattle.stage_law.specs.Weights.{weights_of}
 use Rattle.impulse_phase.specs.declared.table.Response.{Response as Table}
 use Rattle.impulse_phase.specs.Response.{Responses, through_filter}
@@ -70,7 +70,7 @@ pub record IsPast (first whole needed index : ℕ) : Type 0 where
 pub record IsEndReached (table : Table) (width longest : ℕ) (sum : WeightedSum) (class : Class) (high : Bool) (xs : List ℤ) (index : ℕ) (value : ℤ) : Type 0 where
   pub reaches : IsExtreme (transform_of table) width (weights_of sum) class value xs index
   pub end : value ≡ end_of high (range_of width (weights_of sum) (responses_of table) class (finer_classes (length (rows_of table)) class.modulus))
-  pub soon : index ≤ needed_for table longest sum.behind (length sum.weights.items) + whole_of table class
+  pub soon : index ≤ needed_for table longest (length (weights_of sum)) + whole_of table class
   pub few : length xs ≤ suc (size (responses_of table (pos index)).newest)
 
 -- some samples do that

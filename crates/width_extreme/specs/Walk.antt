@@ -1,6 +1,7 @@
 -- A sum over the rows of a table of responses, as they are read one after another.
-use Rattle.std.specs.Prelude.{◌≡◌, ℕ, ◌+◌, ◌*◌, ◌/◌, ◌^◌, ◌<◌, ◌≤◌, List, ◌++◌, length, get_or, replicate, ℤ, pos, negsuc, unsigned_abs, ◌+ℤ◌, ◌-ℤ◌, ◌≤ℤ◌, ◌<ℤ◌}
+use Rattle.std.specs.Prelude.{◌≡◌, ℕ, ◌+◌, ◌*◌, ◌/◌, ◌^◌, ◌<◌, ◌≤◌, List, length, take, get_or, ℤ, pos, negsuc, unsigned_abs, ◌+ℤ◌, ◌-ℤ◌, ◌*ℤ◌, ◌≤ℤ◌, ◌<ℤ◌}
 use Rattle.mr_values.specs.Sequence.{Sequence}
+use Rattle.mr_values.specs.Timing.{low_end}
 use Rattle.mr_values.specs.Value.{size}
 use Rattle.stage_law.specs.Streams.{AreWithin, magnitudes}
 use Rattle.impulse_phase.specs.declared.table.Response.{Response as Table}
@@ -32,8 +33,8 @@ abbrev pub weight_back : Table → ℕ → ℕ → ℕ → ℤ
 weight_back table index place back = get_or (behind (delay_at table index back) (responses_of table (pos index -ℤ pos back)).weights) place (pos 0)
 
 -- the weights of the samples in a sum of the values from the index on backwards
-abbrev pub weights_at : Table → ℕ → List ℤ → ℕ → List ℤ
-weights_at table zeros factors index = (through_filter (replicate zeros (pos 0) ++ factors) (responses_of table) (pos index)).weights
+abbrev pub weights_at : Table → List ℤ → ℕ → List ℤ
+weights_at table form index = (through_filter form (responses_of table) (pos index)).weights
 
 -- The index `back` before is of this class. `late` is the newest sample of the index, and that of as many rounds more as lie between.
 pub record IsEntry (table : Table) (index back class late : ℕ) : Type 0 where
@@ -63,6 +64,17 @@ pub record HasTermRoom (sum term : ℤ) : Type 0 where
   pub term_small : unsigned_abs term ≤ 2 ^ 126
   pub sum_small : unsigned_abs (sum +ℤ term) ≤ 2 ^ 126
 
--- from so many indices on, every sample in a sum at an index has an index of 0 or more
-abbrev pub needed_for : Table → ℕ → ℕ → ℕ → ℕ
-needed_for table longest zeros factors = zeros + factors + length (rows_of table) * (longest / table.step + 1)
+-- from so many indices on, every sample in a sum of so many values has an index of 0 or more
+abbrev pub needed_for : Table → ℕ → ℕ → ℕ
+needed_for table longest values = values + length (rows_of table) * (longest / table.step + 1)
+
+-- the sums of the first weights above 0, and of those below, are small
+pub record HasSmallSums (weights : List ℤ) : Type 0 where
+  pub above : (k : ℕ) → unsigned_abs (low_end (take k weights) (pos 1) (pos 0)) ≤ 2 ^ 126
+  pub below : (k : ℕ) → unsigned_abs (low_end (take k weights) (pos 0) (pos 1)) ≤ 2 ^ 126
+
+-- a product of each of two sums, and both together, are small
+pub record HasEndRoom (above below near far : ℤ) : Type 0 where
+  pub near_small : unsigned_abs (above *ℤ near) ≤ 2 ^ 126
+  pub far_small : unsigned_abs (below *ℤ far) ≤ 2 ^ 126
+  pub sum_small : unsigned_abs (above *ℤ near +ℤ below *ℤ far) ≤ 2 ^ 126

@@ -1,9 +1,10 @@
 //! Where a sum reaches an end of its range, and the samples that make it.
 
 ghost use Rattle.std.specs.Prelude.{◌≡◌, ℕ, ◌+◌, ◌*◌, ◌/◌, ◌%◌, ◌<◌, ◌≤◌, ◌^◌, ◌⊎◌, length, pos, true, IfOk};
+ghost use Rattle.stage_law.specs.Weights.{weights_of};
 ghost use Rattle.width_extreme.specs.Furthest.{IsFurther, IsPast};
 
-use crate::prefix::{Entry, PrefixRanges};
+use crate::prefix::PrefixRanges;
 use impulse_phase::common;
 use mr_values::Memory;
 use stage_law::{Class, WeightedSum};
@@ -32,10 +33,9 @@ struct FinerEnd {
 }
 
 impl PrefixRanges {
-    ghost use Rattle.stage_law.specs.Weights.{weights_of};
     ghost use Rattle.impulse_phase.specs.Reading.{rows_of, responses_of};
     ghost use Rattle.width_extreme.specs.Prefix.{finer_classes};
-    ghost use Rattle.width_extreme.specs.Walk.{delay_at, needed_for, IsEntry, HasFormRoom};
+    ghost use Rattle.width_extreme.specs.Walk.{delay_at, needed_for, HasFormRoom};
     ghost use Rattle.width_extreme.specs.Furthest.{end_at, whole_of, chosen_for, near_end, far_end, samples_at, IsEndReached, IsEndReachable};
 
     /// The greatest value of the sum over the streams and the indices of the class, or else the least, and an index
@@ -100,19 +100,17 @@ impl PrefixRanges {
         requires near { index ≤ length (rows_of self.now.table) * 2 ^ 64 + 2 ^ 66 }
         ensures { IfOk result (λ samples. samples.items ≡ samples_at self.now.table self.now.width (weights_of sum.now) high index) }
     {
-        let factors = sum.weights.as_slice();
         let first = self.class_of(index);
         let newest = self.newest_at(index);
         let mut samples = Vec::new(alloc);
         let mut place = 0u128;
         let mut start = 0usize;
-        let mut entry = self.first_entry(first, sum.behind);
+        let entry = self.first_entry(first, 0);
         'places: while place <= newest {
-            if start < factors.len() && self.is_spent(first, entry, place) {
-                entry = self.next_entry(first, entry);
+            if start < sum.weights.len() && self.is_spent(first, sum.weights[start].behind, place) {
                 start += 1;
             } else {
-                let weight = self.weight_at(first, entry, &factors[start..], place);
+                let weight = self.weight_at(first, entry, sum, start, place);
                 samples.push(self.sample_for(weight, high))?;
                 place += 1;
             }
@@ -121,13 +119,12 @@ impl PrefixRanges {
         Ok(samples)
     }
 
-    // Whether the entry reaches no place from this one on.
-    fn is_spent(&self, index: u64, entry: Entry, place: u128) -> bool
-        requires index { index < length (rows_of self.now.table) }
-        requires entry { IsEntry self.now.table index entry.back entry.class entry.late }
-        requires near { entry.back ≤ 2 ^ 66 }
-        ensures { result ≡ true → delay_at self.now.table index entry.back + self.now.longest ≤ place }
+    // Whether the value that came so many values before reaches no place from this one on.
+    fn is_spent(&self, index: u64, behind: u64, place: u128) -> bool
+        requires { index < length (rows_of self.now.table) }
+        ensures { result ≡ true → delay_at self.now.table index behind + self.now.longest ≤ place }
     {
+        let entry = self.first_entry(index, behind);
         self.delay(index, entry) + u128::from(self.longest) <= place
     }
 
@@ -208,7 +205,7 @@ impl PrefixRanges {
         ensures value { result.value ≡ end_at high self.now.width (weights_of sum.now) (responses_of self.now.table) (class.residue + finer * class.modulus) }
     {
         let index = first_of(class, finer) % self.table.classes();
-        let range = self.ends(index, sum.behind, &sum.weights);
+        let range = self.ends(index, sum);
         if high {
             FinerEnd {
                 finer,
@@ -227,14 +224,14 @@ impl PrefixRanges {
         requires class { class.residue < class.modulus }
         requires finer { finer < finer_classes (length (rows_of self.now.table)) class.modulus }
         ensures past { IsPast (class.residue + finer * class.modulus) (whole_of self.now.table class)
-            (needed_for self.now.table self.now.longest sum.now.behind (length sum.now.weights.items)) result }
+            (needed_for self.now.table self.now.longest (length (weights_of sum.now))) result }
         ensures near { result ≤ length (rows_of self.now.table) * 2 ^ 64 + 2 ^ 66 }
     {
         let first = first_of(class, finer);
         past(
             u128::from(first),
             u128::from(self.whole(class)),
-            self.needed(sum.behind, sum.weights.len() as u64),
+            self.needed(reach_of(sum)),
         )
     }
 
@@ -246,13 +243,27 @@ impl PrefixRanges {
         self.finer_count(class) * u64::from(class.modulus)
     }
 
-    // From this index on every sample in a sum of so many factors has an index of 0 or more.
-    fn needed(&self, behind: u64, factors: u64) -> u128
-        ensures needed { result ≡ needed_for self.now.table self.now.longest behind factors }
+    // From this index on every sample in a sum that reaches back so many values has an index of 0 or more.
+    fn needed(&self, reach: u128) -> u128
+        requires { reach ≤ 2 ^ 64 }
+        ensures needed { result ≡ needed_for self.now.table self.now.longest reach }
         ensures near { result ≤ length (rows_of self.now.table) * 2 ^ 64 + 2 ^ 65 }
     {
         let rounds = u128::from(self.longest / self.table.step()) + 1;
-        u128::from(behind) + u128::from(factors) + u128::from(self.table.classes()) * rounds
+        reach + u128::from(self.table.classes()) * rounds
+    }
+}
+
+// How many values a sum reaches back.
+fn reach_of(sum: &WeightedSum) -> u128
+    ensures reach { result ≡ length (weights_of sum.now) }
+    ensures most { result ≤ 2 ^ 64 }
+{
+    let count = sum.weights.len();
+    if count == 0 {
+        0
+    } else {
+        u128::from(sum.weights[count - 1].behind) + 1
     }
 }
 

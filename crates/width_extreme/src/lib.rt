@@ -3,6 +3,7 @@
 
 mod extreme;
 mod prefix;
+mod single;
 
 ghost use Rattle.std.specs.Prelude.{ℕ, ◌<◌, List, ℤ};
 ghost use Rattle.mr_values.specs.declared.plan.Element.{Element};
@@ -20,6 +21,3 @@ pub fn law_of_ranges()
     ensures { (es : List Element) (width : ℕ) (form : List ℤ) (class : Class) → AreLinear es → class.residue < class.modulus
         → IsRange (IsStream (chain es) width) form class (range_of width form (responses es) class (finer_classes (full_cycle es).classes class.modulus)) }
 {}
-
-#[cfg(test)]
-mod tests;

@@ -37,12 +37,14 @@ pub(crate) struct Entry {
 }
 
 impl PrefixRanges {
-    ghost use Rattle.std.specs.Prelude.{All, IfOk, ◌++◌, length, get_or, replicate, pos};
+    ghost use Rattle.std.specs.Prelude.{All, IfOk, length, drop, get_or, pos};
     ghost use Rattle.mr_values.specs.Sequence.{weighted_sum};
     ghost use Rattle.mr_values.specs.Timing.{low_end};
     ghost use Rattle.mr_values.specs.Value.{IsWithinLimits, chain};
     ghost use Rattle.impulse_phase.specs.Response.{AreLinear};
     ghost use Rattle.impulse_phase.specs.Reading.{silent, rows_of, AreModest, IsResponseOf};
+    ghost use Rattle.stage_law.specs.Rising.{behind_at, factors_in};
+    ghost use Rattle.stage_law.specs.Weights.{weights_of};
     ghost use Rattle.width_extreme.specs.Prefix.{least_sample, greatest_sample};
     ghost use Rattle.width_extreme.specs.Walk.{delay_at, weight_back, weights_at, IsEntry, HasRoomLeft, HasFormRoom};
 
@@ -66,26 +68,41 @@ impl PrefixRanges {
         })
     }
 
-    /// The ends of the sum over the samples, at an index of the first round, of values from the index on backwards: `zeros` of them
-    /// have no factor, and the others these.
-    pub(crate) fn ends(&self, index: u64, zeros: u64, factors: &[i128]) -> Range
+    /// The ends of the sum over the samples, at an index of the first round.
+    pub(crate) fn ends(&self, index: u64, sum: &WeightedSum) -> Range
         requires index { index < length (rows_of self.now.table) }
-        requires room { HasFormRoom self.now.table self.now.width (replicate zeros (pos 0) ++ factors.now) }
-        ensures low { result.lo ≡ low_end (weights_at self.now.table zeros factors.now index) (least_sample self.now.width) (greatest_sample self.now.width) }
-        ensures high { result.hi ≡ low_end (weights_at self.now.table zeros factors.now index) (greatest_sample self.now.width) (least_sample self.now.width) }
+        requires room { HasFormRoom self.now.table self.now.width (weights_of sum.now) }
+        ensures low { result.lo ≡ low_end (weights_at self.now.table (weights_of sum.now) index) (least_sample self.now.width) (greatest_sample self.now.width) }
+        ensures high { result.hi ≡ low_end (weights_at self.now.table (weights_of sum.now) index) (greatest_sample self.now.width) (least_sample self.now.width) }
+    {
+        if sum.weights.len() == 1 {
+            let own = sum.weights[0];
+            if own.factor != 0 {
+                return self.single_ends(index, own);
+            }
+        }
+        self.walked_ends(index, sum)
+    }
+
+    // The ends of the sum, place by place.
+    fn walked_ends(&self, index: u64, sum: &WeightedSum) -> Range
+        requires index { index < length (rows_of self.now.table) }
+        requires room { HasFormRoom self.now.table self.now.width (weights_of sum.now) }
+        ensures low { result.lo ≡ low_end (weights_at self.now.table (weights_of sum.now) index) (least_sample self.now.width) (greatest_sample self.now.width) }
+        ensures high { result.hi ≡ low_end (weights_at self.now.table (weights_of sum.now) index) (greatest_sample self.now.width) (least_sample self.now.width) }
     {
         let mut range = Range { lo: 0, hi: 0 };
         let mut place = 0u128;
         let mut start = 0usize;
-        let mut entry = self.first_entry(index, zeros);
-        'places: while start < factors.len() {
+        let mut entry = self.first_entry(index, 0);
+        'places: while start < sum.weights.len() {
+            entry = self.entry_at(index, entry, sum.weights[start].behind);
             let delay = self.delay(index, entry);
             if delay + u128::from(self.longest) <= place {
-                entry = self.next_entry(index, entry);
                 start += 1;
             } else {
                 let at = place.max(delay);
-                let weight = self.weight_at(index, entry, &factors[start..], at);
+                let weight = self.weight_at(index, entry, sum, start, at);
                 range = self.with_weight(range, weight);
                 place = at + 1;
             }
@@ -120,23 +137,35 @@ impl PrefixRanges {
         power(self.width - 1) - 1
     }
 
-    // The weight of the sample `place` before the newest one, in the sum of the values from the entry on backwards.
-    pub(crate) fn weight_at(&self, index: u64, entry: Entry, factors: &[i128], place: u128) -> i128
+    // The weight of the sample `place` before the newest one, in what the sum has from its weight number `start` on.
+    pub(crate) fn weight_at(
+        &self,
+        index: u64,
+        entry: Entry,
+        sum: &WeightedSum,
+        start: usize,
+        place: u128,
+    ) -> i128
         requires index { index < length (rows_of self.now.table) }
         requires entry { IsEntry self.now.table index entry.back entry.class entry.late }
-        requires near { entry.back + length factors.now ≤ 2 ^ 66 }
-        requires room { HasRoomLeft self.now.table 0 factors.now }
-        ensures { result ≡ weighted_sum factors.now (λ k. weight_back self.now.table index place (entry.back + k)) }
+        requires start { start ≤ length sum.now.weights.items }
+        requires room { HasRoomLeft self.now.table 0 (drop start (factors_in sum.now.weights.items)) }
+        ensures { result ≡ weighted_sum (drop start (factors_in sum.now.weights.items)) (λ k. weight_back self.now.table index place (behind_at sum.now.weights.items (start + k))) }
     {
         let mut weight = 0i128;
         let mut entry = entry;
-        for factor in factors {
+        for at in start..sum.weights.len() {
+            let own = sum.weights[at];
+            entry = self.entry_at(index, entry, own.behind);
             let delay = self.delay(index, entry);
             if place < delay {
                 return weight;
             }
-            weight = with_product(weight, *factor, self.row_weight(entry.class, place - delay));
-            entry = self.next_entry(index, entry);
+            weight = with_product(
+                weight,
+                own.factor,
+                self.row_weight(entry.class, place - delay),
+            );
         }
         weight
     }
@@ -192,6 +221,23 @@ impl PrefixRanges {
         }
     }
 
+    // The index so many values before, from another.
+    pub(crate) fn entry_at(&self, index: u64, entry: Entry, behind: u64) -> Entry
+        requires index { index < length (rows_of self.now.table) }
+        requires entry { IsEntry self.now.table index entry.back entry.class entry.late }
+        ensures entry { IsEntry self.now.table index result.back result.class result.late }
+        ensures back { result.back ≡ behind }
+    {
+        let back = u128::from(behind);
+        if entry.back == back {
+            entry
+        } else if back > 0 && entry.back == back - 1 {
+            self.next_entry(index, entry)
+        } else {
+            self.first_entry(index, behind)
+        }
+    }
+
     // The index one value before that of the entry.
     pub(crate) fn next_entry(&self, index: u64, entry: Entry) -> Entry
         requires index { index < length (rows_of self.now.table) }
@@ -225,10 +271,10 @@ impl Ranges for PrefixRanges {
         let classes = self.table.classes();
         let modulus = u64::from(class.modulus);
         let residue = u64::from(class.residue);
-        let mut range = self.ends(residue % classes, sum.behind, &sum.weights);
+        let mut range = self.ends(residue % classes, sum);
         for finer in 1..classes / common(classes, modulus) {
             let index = (residue + finer * modulus) % classes;
-            range = wider(range, self.ends(index, sum.behind, &sum.weights));
+            range = wider(range, self.ends(index, sum));
         }
         range
     }
@@ -265,7 +311,7 @@ fn with_end(sum: i128, weight: i128, low: i128, high: i128) -> i128
 }
 
 // The least product of a factor with a number between two.
-fn least_product(factor: i128, low: i128, high: i128) -> i128
+pub(crate) fn least_product(factor: i128, low: i128, high: i128) -> i128
     requires { unsigned_abs (least_term low high factor) ≤ 2 ^ 126 }
     ensures { result ≡ least_term low high factor }
 {
@@ -277,7 +323,7 @@ fn least_product(factor: i128, low: i128, high: i128) -> i128
 }
 
 // The product of two numbers.
-fn product(a: i128, b: i128) -> i128
+pub(crate) fn product(a: i128, b: i128) -> i128
     requires { unsigned_abs (a *ℤ b) ≤ 2 ^ 126 }
     ensures { result ≡ a *ℤ b }
 {
@@ -285,7 +331,7 @@ fn product(a: i128, b: i128) -> i128
 }
 
 // A sum with one more term.
-fn with_term(sum: i128, term: i128) -> i128
+pub(crate) fn with_term(sum: i128, term: i128) -> i128
     requires { unsigned_abs (sum +ℤ term) ≤ 2 ^ 126 }
     ensures { result ≡ sum +ℤ term }
 {

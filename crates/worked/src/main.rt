@@ -9,7 +9,7 @@ use bench::Bench;
 use std::io::ErrorKind;
 use std::{fs, io};
 
-const SUBJECTS: [&str; 10] = [
+const SUBJECTS: [&str; 11] = [
     "words.txt",
     "plan_files.txt",
     "limits.txt",
@@ -20,6 +20,7 @@ const SUBJECTS: [&str; 10] = [
     "texts.txt",
     "cycles.txt",
     "orders.txt",
+    "large.txt",
 ];
 
 fn main(rt: HostRuntime) -> io::Result<()> {

@@ -56,7 +56,7 @@ impl Host for Flood {
     ghost use Rattle.std.specs.Prelude.{false, []};
     ghost use Rattle.std.specs.FinMap.{empty};
 
-    ghost state = { λ host. record { tells = false; has_input = host.has_input; has_output = host.has_output; faults = host.faults; struck = 0; files = empty; input = []; place = 0; output = [] } };
+    ghost state = { λ host. record { tells = false; has_input = host.has_input; has_output = host.has_output; faults = host.faults; struck = 0; files = empty; input = []; place = 0; output = []; ends = λ _. 0 } };
 
     fn open_input(&mut self, name: &str) -> Result<(), Failed> {
         self.is_plan = name == "plan";

@@ -65,7 +65,7 @@ returns c =
     let formed = (subst (λ (cells : List Cell). IsNetlist cells) c.in-Ok.ensures.ok c.in-Ok.ensures.netlist).well_formed in
     record {
       chain = subst (λ (cells : List Cell). IsChainNet W T es cells c.in_ok-outputs.outputs.out_q c.in_ok-outputs.outputs.out_valid) (sym c.in-Ok.ensures.ok) (chain_net W T es wide first chained linear outs formed);
-      costs = subst (λ (cells : List Cell). HasCosts (groups es) c.in_ok-chained.chained.costs.items cells) (sym c.in-Ok.ensures.ok) (chain_costs W T es wide first chained linear outs formed c.in_ok-chained.ensures.costs);
+      costs = subst (λ (cells : List Cell). HasCosts (groups es) c.in_ok-chained.chained.costs.items cells) (sym c.in-Ok.ensures.ok) (chain_costs W T es wide first chained linear outs c.in_ok-chained.ensures.costs);
       cascades = subst (λ (cells : List Cell). HasCascades W T es cells) (sym c.in-Ok.ensures.ok) (cascades_outputs W T es outs c.in_ok-chained.ensures.cascades);
       shapes = subst (λ (cells : List Cell). HaveLinearItems 1 (groups es) cells) (sym c.in-Ok.ensures.ok) (chain_shapes W T es wide first chained linear outs c.in_ok-chained.ensures.shapes);
       groups = subst (λ (cells : List Cell). AreGrouped (length (groups es)) cells) (sym c.in-Ok.ensures.ok) (outputs_grouped c.in_ok-chained.ensures.groups outs formed);

@@ -13,7 +13,7 @@ use Rattle.chain_build.proofs.RegistersSoFar.{RegistersSoFar, RegistersSoFar-sta
 use Rattle.chain_build.proofs.PeaksSoFar.{PeaksSoFar-start, peaks_next, peaks_end}
 use Rattle.chain_build.proofs.StepAt.{registers_next, registers_end}
 use Rattle.chain_build.proofs.Roundings.{rounded-more}
-use Rattle.chain_build.proofs.SoFar.{SoFar-plan, SoFar-next, SoFar-all, SoFar-end, SoFar-none, no_facts, so_at, so_none, so_all, is_built_head, unused, taking}
+use Rattle.chain_build.proofs.SoFar.{SoFar-plan, SoFar-next, SoFar-all, SoFar-end, SoFar-none, no_facts, so_at, so_none, so_all, is_built_head, is_fitting, unused, taking}
 use Rattle.chain_build.proofs.Taking.{can_take, holds_before}
 use Rattle.chain_build.proofs.groups.add_groups.Goals as goal
 
@@ -40,6 +40,9 @@ add_next-requires-clause-unused c = unused (so_at c.args.facts.now.groups.items 
 
 pub add_next-requires-clause-takes : goal.add_next-requires-clause-takes
 add_next-requires-clause-takes c = taking (so_at c.args.facts.now.groups.items c.loop-fact.fact-index c.loop-fact.invariant.0.1 _ no_facts (omega (arith, c.deref-fact-items.ensures.len)) (ap (λ (xs : List GroupFacts). get_or xs c.loop-fact.fact-index no_facts) c.deref-fact-items.ensures.value)) c.in-Some.ensures
+
+pub add_next-requires-clause-fits : goal.add_next-requires-clause-fits
+add_next-requires-clause-fits c = is_fitting (so_at c.args.facts.now.groups.items c.loop-fact.fact-index c.loop-fact.invariant.0.1 _ no_facts (omega (arith, c.deref-fact-items.ensures.len)) (ap (λ (xs : List GroupFacts). get_or xs c.loop-fact.fact-index no_facts) c.deref-fact-items.ensures.value)) c.in-Some.ensures
 
 pub add_next-requires-clause-can_take : goal.add_next-requires-clause-can_take
 add_next-requires-clause-can_take c = can_take c.requires.accepted (so_at c.args.facts.now.groups.items c.loop-fact.fact-index c.loop-fact.invariant.0.1 _ no_facts (omega (arith, c.deref-fact-items.ensures.len)) (ap (λ (xs : List GroupFacts). get_or xs c.loop-fact.fact-index no_facts) c.deref-fact-items.ensures.value)) c.in-Some.ensures c.loop-fact.rounded c.loop-fact.invariant.0.2

@@ -1,40 +1,47 @@
-use Rattle.std.proofs.Common.{◌≡◌, ℕ, arith, subst}
+use Rattle.std.proofs.Common.{◌≡◌, ℕ, zero, suc, ◌+◌, ◌*◌, ◌<◌, ◌≤◌, arith, subst, ◌∙◌, length-set}
+use prog.Memory.{up}
+use Rattle.std.proofs.lemmas.List.{length-replicate}
 use Rattle.net_graph.proofs.NetLemmas.{Extends-trans}
-use Rattle.cic_chain.specs.Pieces.{AddsCombs}
-use Rattle.cic_chain.proofs.RowLemmas.{AddsCombs-none, AddsCombs-more}
+use Rattle.cic_chain.specs.Pieces.{AddsCombRow}
+use Rattle.cic_chain.proofs.CombLemmas.{AddsCombRow-none, AddsCombRow-more}
 use Rattle.cic_chain.proofs.cascades.combs.Goals as goal
 
+-- a comb's registers fit the memory
+row_size : (delay : ℕ) → delay ≤ 2 → up 8 (up 8 (0 + delay * 8) + 8) < 9223372036854775808
+row_size zero h = omega arith
+row_size (suc zero) h = omega arith
+row_size (suc (suc zero)) h = omega arith
+row_size (suc (suc (suc delay))) h = absurd (omega arith)
+
 pub loop-stage-init : goal.loop-stage-init
-loop-stage-init c = AddsCombs-none c.args.net.now c.args.from c.args.width c.args.delay c.requires.within
+loop-stage-init g c = record {
+  combs = AddsCombRow-none c.args.net.now c.args.from c.args.width g.row.D _ c.requires.within;
+  long = length-replicate _ _;
+}
 
-pub comb-requires-clause-within : goal.comb-requires-clause-within
-comb-requires-clause-within c = c.loop-stage.invariant.piece.within
+pub add_comb-requires : goal.add_comb-requires
+add_comb-requires g c =
+    (row_size g.row.D c.requires.close, (c.loop-stage.invariant.combs.row.piece.within, (rw c.loop-stage.invariant.combs.row.piece.grows.group c.requires.data_group, (rw c.loop-stage.invariant.combs.row.period c.requires.positive, c.requires.wide))))
 
-pub comb-requires-clause-data_group : goal.comb-requires-clause-data_group
-comb-requires-clause-data_group c = rw c.loop-stage.invariant.piece.grows.group c.requires.data_group
+pub returns-in_err-delays-clause-extends : goal.returns-in_err-delays-clause-extends
+returns-in_err-delays-clause-extends g c = Extends-trans _ _ _ c.loop-stage.invariant.combs.row.piece.grows.extends c.in_err-delays.ensures.extends
 
-pub comb-requires-clause-positive : goal.comb-requires-clause-positive
-comb-requires-clause-positive c = rw c.loop-stage.invariant.period c.requires.positive
-
-pub comb-requires-clause-early : goal.comb-requires-clause-early
-comb-requires-clause-early c = let o = c.loop-stage.invariant.offset in let e = c.requires.early in omega arith
-
-pub returns-in_err-last-clause-extends : goal.returns-in_err-last-clause-extends
-returns-in_err-last-clause-extends c = Extends-trans _ _ _ c.loop-stage.invariant.piece.grows.extends c.in_err-last.ensures.extends
-
-pub returns-in_err-last-clause-group : goal.returns-in_err-last-clause-group
-returns-in_err-last-clause-group c = rw c.in_err-last.ensures.group c.loop-stage.invariant.piece.grows.group
+pub returns-in_err-delays-clause-group : goal.returns-in_err-delays-clause-group
+returns-in_err-delays-clause-group g c = rw c.in_err-delays.ensures.group c.loop-stage.invariant.combs.row.piece.grows.group
 
 pub loop-stage-preserved : goal.loop-stage-preserved
-loop-stage-preserved c = AddsCombs-more c.args.from c.args.width c.args.delay c.loop-stage.invariant c.in_ok-last.ensures.ok
+loop-stage-preserved g c = record {
+  combs = AddsCombRow-more (omega (arith, c.loop-stage-test.true, c.loop-stage.invariant.long)) c.loop-stage.invariant.combs c.in_ok-delays.ensures.ok;
+  long = length-set _ _ _ ∙ c.loop-stage.invariant.long;
+}
 
 pub returns-clause-ok : goal.returns-clause-ok
-returns-clause-ok c =
-    let all : c.loop-stage._stage ≡ c.args.stages = omega arith in
-    subst (λ (n : ℕ). AddsCombs c.args.net.now c.loop-stage.net c.args.from c.args.width n c.args.delay c.loop-stage.last) all c.loop-stage.invariant
+returns-clause-ok g c =
+    let all : c.loop-stage.stage ≡ g.row.N = omega arith in
+    subst (λ (n : ℕ). AddsCombRow c.args.net.now c.loop-stage.net c.args.from c.args.width n g.row.D c.loop-stage.each c.loop-stage.to) all c.loop-stage.invariant.combs
 
 pub returns-clause-extends : goal.returns-clause-extends
-returns-clause-extends c = c.loop-stage.invariant.piece.grows.extends
+returns-clause-extends g c = c.loop-stage.invariant.combs.row.piece.grows.extends
 
 pub returns-clause-group : goal.returns-clause-group
-returns-clause-group c = c.loop-stage.invariant.piece.grows.group
+returns-clause-group g c = c.loop-stage.invariant.combs.row.piece.grows.group

@@ -1,5 +1,9 @@
-use Rattle.cic_chain.specs.Pieces.{AddsCombs}
+use Rattle.std.proofs.Common.{◌≡◌, length}
+use Rattle.cic_chain.specs.Pieces.{AddsCombRow}
 use Rattle.cic_chain.proofs.cascades.combs.Given as goal
 
 abbrev pub invariant-loop-stage : goal.invariant-loop-stage
-invariant-loop-stage l = AddsCombs l.fn.net l.net l.fn.from l.width l._stage l.delay l.last
+invariant-loop-stage g l = record {
+  combs : AddsCombRow l.fn.net l.net l.fn.from l.width l.stage g.row.D l.each l.to;
+  long : length l.each ≡ g.row.N;
+}

@@ -5,7 +5,7 @@ use Rattle.cic_chain.proofs.interpolator.interpolate.Goals as goal
 pub returns-clause-ok : goal.returns-clause-ok
 returns-clause-ok g c =
     AddsInterpolator-all c.args.from c.args.width c.args.factor g.row.N g.row.D c.requires.positive c.requires.wide.0 c.requires.factor_low c.requires.some
-    (fast_period c.in_ok-fast.ensures.ok c.in_ok-slow.ensures.ok c.requires.positive) c.in_ok-slow.ensures.ok c.in_ok-fast.ensures.ok c.in_ok-sums.ensures.ok.last
+    (fast_period c.in_ok-fast.ensures.ok c.in_ok-slow.ensures.ok.row c.requires.positive) c.in_ok-slow.ensures.ok.row c.in_ok-fast.ensures.ok c.in_ok-sums.ensures.ok.last
 
 pub returns-clause-extends : goal.returns-clause-extends
 returns-clause-extends g c = (returns-clause-ok g c).piece.grows.extends

@@ -1,5 +1,5 @@
 use Rattle.mr_values.specs.declared.host.HostCall.TheVariants.{Put}
-use Rattle.command_files.specs.declared.fault.Fault.TheVariants as fault
+use Rattle.command_files.specs.declared.fault.RowsFault.TheVariants as fault
 use Rattle.command_files.proofs.RowFileSteps.{put_done, put_failed}
 use Rattle.command_files.proofs.row_files.put_out.Goals as goal
 

@@ -1,6 +1,7 @@
 use Rattle.std.proofs.Common.{[], ◌∙◌, sym}
 use Rattle.std.proofs.lemmas.Result.{err_from_is_err_and}
 use Rattle.command_files.proofs.RowFileSteps.{input_opened, open_fails, begun, differ, stream_fails, stream_ends}
+use Rattle.command_files.proofs.EndsKept.{kept_after, same_kept}
 use Rattle.command_files.proofs.row_files.stream_rows.Goals as goal
 
 pub returns-in_err-open_out-clause-told : goal.returns-in_err-open_out-clause-told
@@ -51,3 +52,4 @@ returns-clause-told g c = λ told.
     let out = c.in_ok-open_out.ensures.told told1 in
     let taken = c.in_ok-take_rows.ensures.told old.files [] told2 (differ a b input output old one two three c.requires opened out) (begun a b input output old one two three c.requires opened out) in
     stream_ends a b input output old one two three c.requires opened out c.end_rows.result (g.H.Host.state c.end_rows.new.host) taken (c.end_rows.ensures.told told3)
+    (kept_after old.ends one.ends two.ends (same_kept old.ends one.ends (c.open_input.ensures.told told).ends) (c.in_ok-open_out.ensures.cause.ends told1)) (c.end_rows.ensures.cause.ends told3)

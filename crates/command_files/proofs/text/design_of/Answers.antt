@@ -1,9 +1,8 @@
-use Rattle.std.proofs.Common.{Err, sym, subst}
-use Rattle.command_files.specs.declared.fault.Fault.{Fault}
-use Rattle.command_files.specs.TextFile.{BytesAnswer}
+use Rattle.std.proofs.lemmas.Result.{err_from_is_err_and}
 use Rattle.command_files.proofs.TextSteps.{text_refused}
 use Rattle.command_files.proofs.text.design_of.Goals as goal
 
-pub returns-in-Err-clause-answer : goal.returns-in-Err-clause-answer
-returns-in-Err-clause-answer c =
-    subst (λ (fault : Fault). BytesAnswer c.args.bytes.now (Err fault)) (sym c.fault_of_text.ensures) (text_refused c.args.bytes.now c.in-Err.why c.in-Err.ensures.refused c.in-Err.ensures.only)
+pub returns-in_err-read_text-clause-answer : goal.returns-in_err-read_text-clause-answer
+returns-in_err-read_text-clause-answer c =
+    let p = err_from_is_err_and c.from_residual.result c.from_residual.ensures.1 in
+    rw (p.1, p.2) (text_refused c.args.bytes.now c.in_err-read_text.field-0.0 c.in_err-read_text.ensures.refused c.in_err-read_text.ensures.only)

@@ -1,6 +1,7 @@
 use Rattle.std.proofs.Common.{subst}
 use Rattle.filter_core.specs.CommandWords.{words_of}
 use Rattle.filter_core.specs.Tool.{IsReady}
+use Rattle.demo_command.proofs.Completeness.{demo-complete}
 use Rattle.plan_commands.proofs.Completeness.{compile-complete, noble-complete}
 use Rattle.plan_commands.proofs.ExtremeSteps.{extreme-complete}
 use Rattle.plan_commands.proofs.RunSteps.{run-complete}
@@ -49,3 +50,9 @@ returns-in-Extreme-clause-complete g c = λ told ready unstruck.
     let new = g.H.Host.state c.extreme.new.host in
     let accepted = subst (λ command. IsReady (words_of command) old.files) c.in-Extreme.is ready in
     extreme-complete c.in-Extreme.plan.now c.in-Extreme.register.now c.in-Extreme.out.now c.extreme.result old new (c.extreme.ensures.cause.struck told) (c.extreme.ensures.told told) accepted unstruck
+
+pub returns-in-Demo-clause-complete : goal.returns-in-Demo-clause-complete
+returns-in-Demo-clause-complete g c = λ told ready unstruck.
+    let old = g.H.Host.state c.args.host.now in
+    let new = g.H.Host.state c.demo.new.host in
+    demo-complete c.in-Demo.number c.in-Demo.out.now c.demo.result old new (c.demo.ensures.cause.struck told) (c.demo.ensures.told told) unstruck

@@ -1,5 +1,6 @@
 use Rattle.std.proofs.Common.{◌∙◌, List, ◌++◌, Option, ℕ, ap}
 use Rattle.verilog_tree.specs.Tree.{Design}
+use Rattle.verilog_tree.specs.declared.tree.Module.{Module}
 use Rattle.verilog_tree.specs.View.{design_view}
 use Rattle.chain_build.specs.declared.groups.GroupCost.{GroupCost}
 use Rattle.filter_report.specs.Costs.{cost_lines}
@@ -15,6 +16,7 @@ returns c = λ gs tells output.
     let registers = register_lines d (told_at c.args.chain.now.extremes.items) d.signals in
     let costs = c.args.chain.now.costs.items in
     c.in_ok-put_registers.ensures
+    ∙ ap (λ (m : Module). c.put_groups.new.text.items ++ register_lines (design_view m) (told_at c.deref-2.result.now) (design_view m).signals) c.tree.ensures.same
     ∙ ap (λ (extremes : List (Option ExtremeAt)). c.put_groups.new.text.items ++ register_lines d (told_at extremes) d.signals) c.deref-2.ensures.value
     ∙ ap (λ (text : List ℕ). text ++ registers)
     (c.in_ok-put_groups.ensures ∙ ap (λ (told : List GroupCost). c.in_ok-text.text.items ++ cost_lines 1 told) c.deref.ensures.value

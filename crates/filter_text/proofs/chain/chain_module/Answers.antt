@@ -33,6 +33,7 @@ use Rattle.filter_text.proofs.TellExtremes.{tells_extremes}
 use Rattle.filter_text.proofs.TellNumbers.{has_extremes, told_within, tells_each}
 use Rattle.filter_text.proofs.ReadModules.{passing, running, output_width}
 use Rattle.filter_text.proofs.chain.chain_module.Goals as goal
+use Rattle.verilog_tree.specs.View.{design_view}
 
 pub module_of-requires-clause-writable : goal.module_of-requires-clause-writable
 module_of-requires-clause-writable c = chain_writable c.in_ok-built.ensures.chain (narrow_plan c.args.plan.now c.requires.accepted)
@@ -43,8 +44,13 @@ by_number-requires c = λ j t at.
     let cells = c.in_ok-built.built.net in
     let told = c.in_ok-built.built.extremes.items in
     let less = told_within built.chain c.nets_are_small.ensures built.registers told built.extremes j t (ap (λ (xs : List RegisterExtreme). slice_get xs j) (sym c.deref.ensures.value) ∙ at) in
-    let names : length c.in_ok-design.design.names.items ≡ length (written_module cells).names = ap (λ (d : Design). length d.names) c.in_ok-design.ensures in
-    omega (arith, less, names, c.len.ensures, c.in_ok-design.design.names.ok)
+    let names : length c.in_ok-tree.tree.names.items ≡ length (written_module cells).names = ap (λ (d : Design). length d.names) c.in_ok-tree.ensures in
+    omega (arith, less, names, c.len.ensures, c.in_ok-tree.tree.names.ok)
+
+pub new-requires : goal.new-requires
+new-requires c =
+    let net = c.in_ok-built.ensures.chain in
+    subst (λ (d : Design). IsWritable limits d) (sym c.in_ok-tree.ensures) (has_text c.in_ok-built.built.net net.netlist (chain_writable net (narrow_plan c.args.plan.now c.requires.accepted)) c.nets_are_small.ensures)
 
 pub width-requires : goal.width-requires
 width-requires c =
@@ -67,7 +73,7 @@ returns c =
     let has = c.in_ok-built.ensures.costs in
     let linear = c.in_ok-built.ensures.registers in
     let told = c.in_ok-built.ensures.extremes in
-    let is = c.in_ok-design.ensures in
+    let is = ap design_view c.new.ensures ∙ c.in_ok-tree.ensures in
     record {
       is_module = λ d same.
           let as_written = subst (λ (e : Design). IsSameButPlaces d e) is same in
@@ -92,7 +98,7 @@ returns c =
             least = least_text some d registers (has_extremes told);
             cascades = cascades_text wide narrow some net small d as_written few c.in_ok-built.ensures.cascades;
             costs = chain_counted es c.in_ok-built.built.costs.items cells few net.netlist small has d as_written;
-            shapes = chain_shaped es cells few net.netlist small has.no_tables c.in_ok-built.ensures.shapes d as_written;
+            shapes = chain_shaped es cells few net.netlist small has.tables.own c.in_ok-built.ensures.shapes d as_written;
             blocks = chain_blocks net can d as_written;
             reset = chain_reset net can d as_written;
             ports = chain_ports net can d as_written;
@@ -100,7 +106,6 @@ returns c =
             control = chain_control net can d as_written;
             plain_outputs = chain_outputs_plain net can d as_written;
           };
-      writable = subst (λ (d : Design). IsWritable limits d) (sym is) (has_text cells net.netlist can small);
       in_order = subst (λ (d : Design). IsInOrder d) (sym is) (in_order cells net.netlist can);
       output = λ d same.
           let as_written = subst (λ (e : Design). IsSameButPlaces d e) is same in

@@ -15,4 +15,4 @@ returns c =
       only = λ other its. one_design text.items other read.0 its read.1;
       same = read.2;
     })
-    c.text_of.result (c.text_of.ensures.same c.requires.in_order)
+    c.text_of.result (c.text_of.ensures.same c.requires)

@@ -5,7 +5,7 @@ use Rattle.stage_law.specs.Streams.{magnitudes}
 use Rattle.fir_pieces.specs.Placed.{powers}
 use Rattle.fir_pieces.specs.Form.{reach_of, moved, with_term, with_terms, power_of}
 use Rattle.fir_pieces.proofs.FormLemmas.{magnitudes_entry, magnitudes-with_term, magnitudes-replicate}
-use Rattle.fir_pieces.proofs.PlaceLemmas.{below_reach, replicate_split, with_term-behind}
+use Rattle.fir_pieces.proofs.PlaceLemmas.{below_reach, nothing_behind, replicate_split, with_term-behind}
 use Rattle.fir_pieces.proofs.forms.sum_of.Goals as goal
 
 pub loop-term-init : goal.loop-term-init
@@ -75,3 +75,9 @@ loop-term-preserved c =
           let less = ap powers split in
           omega (arith, i.small, more, same, less);
     }
+
+pub of-requires-clause-some : goal.of-requires-clause-some
+of-requires-clause-some c none =
+    let long = c.loop-term.invariant.long in
+    let same = ap length c.as_slice.ensures.value in
+    nothing_behind c.args.terms.now c.first_place-behind.result c.first_place-behind.ensures.least (omega (arith, long, same, none))

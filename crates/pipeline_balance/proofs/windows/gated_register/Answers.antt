@@ -11,4 +11,4 @@ returns-clause-ok c =
     IsTaken-gate c.width-width.ensures.wide.0 c.requires.data_group c.requires.within c.width-width.ensures.width c.requires.data_name c.requires.gate c.in_ok-register.ensures.ok c.in_ok-next.ensures.ok c.bind.ensures
 
 pub returns-clause-extends : goal.returns-clause-extends
-returns-clause-extends c = (returns-clause-ok c).grows.extends
+returns-clause-extends c = (returns-clause-ok c).lengthens.extends

@@ -5,6 +5,7 @@ use Rattle.verilog_tree.specs.declared.tree.Signal.{Signal}
 use Rattle.verilog_tree.specs.Checks.{first_repeat, redeclared}
 use Rattle.verilog_tree.specs.View.{design_view}
 use Rattle.verilog_check.specs.Early.{name_fault}
+use Rattle.verilog_check.specs.Faces.{face_of}
 use Rattle.verilog_check.proofs.EarlyParts.{early_fault_is}
 use Rattle.verilog_check.proofs.early.early_check.Goals as goal
 
@@ -14,4 +15,4 @@ returns c =
     let none : redeclared d ≡ None =
     sym (c.in_ok-name.ensures ∙ ap (λ (ss : List Signal). first_repeat [] (map (λ (s : Signal). s.name) ss)) c.requires) ∙ c.in_default.is in
     subst (λ (o : Option ModuleFault). IfOk c.name_fault.result (λ (fault : Option ModuleFault). fault ≡ o))
-    (ap (λ (m : Module). name_fault (design_view m)) c.in_ok-declared.ensures.design ∙ early_fault_is d none) c.name_fault.ensures
+    (ap (λ (m : Module). name_fault (face_of c.args.face) (design_view m)) c.in_ok-declared.ensures.design ∙ early_fault_is (face_of c.args.face) d none) c.name_fault.ensures

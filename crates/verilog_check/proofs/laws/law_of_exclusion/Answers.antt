@@ -2,4 +2,4 @@ use Rattle.verilog_check.proofs.OneAnswer.{excluded}
 use Rattle.verilog_check.proofs.laws.law_of_exclusion.Goals as goal
 
 pub returns : goal.returns
-returns c = excluded
+returns c = λ face d. excluded d {face = face}

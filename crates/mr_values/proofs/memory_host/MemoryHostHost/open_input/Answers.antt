@@ -5,7 +5,7 @@ use Rattle.mr_values.proofs.memory_host.MemoryHostHost.open_input.Goals as goal
 
 pub returns-then-take_turn-clause-told : goal.returns-then-take_turn-clause-told
 returns-then-take_turn-clause-told c = λ told.
-    record { opened = tt; unmoved = tt; refused = inl (rw c.take_turn.ensures.struck at c.strike.ensures.risen); files = refl; output = refl }
+    record { opened = tt; unmoved = tt; refused = inl (rw c.take_turn.ensures.struck at c.strike.ensures.risen); files = refl; output = refl; ends = refl }
 
 pub returns-in-Some-clause-told : goal.returns-in-Some-clause-told
 returns-in-Some-clause-told c = λ told.
@@ -16,6 +16,7 @@ returns-in-Some-clause-told c = λ told.
       refused = tt;
       files = refl;
       output = refl;
+      ends = refl;
     }
 
 -- a file that is there isn't missing

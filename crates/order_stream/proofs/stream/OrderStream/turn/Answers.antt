@@ -1,4 +1,4 @@
-use Rattle.std.proofs.Common.{◌∙◌, ℕ, List, Ok, Err, Option, [], ◌++◌, ◌+◌, drop, ap, sym, subst, append-nil}
+use Rattle.std.proofs.Common.{◌∙◌, Ok, Err, Option, [], ◌++◌, ◌+◌, drop, ap, sym, subst, append-nil}
 use Rattle.std.proofs.lemmas.Result.{err_from_is_err_and}
 use Rattle.verilog_tree.specs.declared.tree.Module.{Module}
 use Rattle.verilog_tree.specs.View.{design_view}

@@ -1,4 +1,4 @@
-use Rattle.std.proofs.Common.{◌∙◌, ℕ, List, Ok, Err, Option, None, [], ap, sym, subst, append-nil}
+use Rattle.std.proofs.Common.{◌∙◌, Ok, Err, Option, None, [], ap, subst}
 use Rattle.std.proofs.lemmas.Result.{err_from_is_err_and}
 use Rattle.verilog_tree.specs.View.{design_view}
 use Rattle.sample_file.specs.declared.row.Row.{Row}
@@ -6,7 +6,7 @@ use Rattle.sample_file.specs.Reading.{row_then, no_rows}
 use Rattle.row_stream.specs.Giving.{Closes}
 use Rattle.clock_sim.specs.Simulated.{values_of}
 use Rattle.order_stream.specs.Stream.{Midst, GivesFrom}
-use Rattle.order_stream.proofs.RowSteps.{end-none, end-run, end-faults}
+use Rattle.order_stream.proofs.RowSteps.{end-run, end-faults}
 use Rattle.order_stream.proofs.stream.OrderStreamRowStream.finish.Goals as goal
 
 pub returns-in_err-run_cycle-in-Some-clause-ends : goal.returns-in_err-run_cycle-in-Some-clause-ends

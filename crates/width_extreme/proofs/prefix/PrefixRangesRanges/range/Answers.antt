@@ -1,11 +1,8 @@
-use Rattle.std.proofs.Common.{◌≡◌, ◌∙◌, ◌+◌, ◌-◌, ◌*◌, ◌/◌, ◌%◌, ◌≤◌, ℕ, ℤ, List, length, ap, arith}
-use Rattle.mr_values.specs.Timing.{low_end}
+use Rattle.std.proofs.Common.{◌≡◌, ◌∙◌, ◌+◌, ◌-◌, ◌*◌, ◌/◌, ◌%◌, ◌≤◌, ℕ, length, ap, arith}
 use Rattle.stage_law.specs.Weights.{weights_of}
 use Rattle.impulse_phase.specs.Response.{common}
 use Rattle.impulse_phase.specs.Reading.{rows_of}
 use Rattle.impulse_phase.proofs.Prefix.{common-positive}
-use Rattle.width_extreme.specs.Prefix.{least_sample, greatest_sample}
-use Rattle.width_extreme.specs.Walk.{weights_at}
 use Rattle.width_extreme.proofs.Finer.{covers-first, covers-more, covers-all}
 use Rattle.width_extreme.proofs.Lawful.{rows-some}
 use Rattle.width_extreme.proofs.prefix.PrefixRangesRanges.range.Goals as goal
@@ -16,10 +13,9 @@ loop-finer-init c =
     let sum = c.args.sum.now in
     let index = c.from-residue.result % c.classes-classes.result in
     let is : index ≡ c.args.class.residue % length (rows_of s.table) = ap (λ (n : ℕ). n % c.classes-classes.result) c.from-residue.ensures ∙ ap (λ (n : ℕ). c.args.class.residue % n) c.classes-classes.ensures in
-    let here = c.deref.ensures.value in
     covers-first s.table s.width (weights_of sum) c.args.class index c.ends-range.result.lo c.ends-range.result.hi s.lawful is
-    (c.ends-range.ensures.low ∙ ap (λ (zs : List ℤ). low_end (weights_at s.table sum.behind zs index) (least_sample s.width) (greatest_sample s.width)) here)
-    (c.ends-range.ensures.high ∙ ap (λ (zs : List ℤ). low_end (weights_at s.table sum.behind zs index) (greatest_sample s.width) (least_sample s.width)) here)
+    c.ends-range.ensures.low
+    c.ends-range.ensures.high
 
 pub loop-finer-preserved : goal.loop-finer-preserved
 loop-finer-preserved c =
@@ -31,11 +27,10 @@ loop-finer-preserved c =
     let at : k ≡ c.args.class.residue + finer * c.args.class.modulus = ap (λ (n : ℕ). n + finer * c.from-modulus.result) c.from-residue.ensures ∙ ap (λ (n : ℕ). c.args.class.residue + finer * n) c.from-modulus.ensures in
     let is : index ≡ (c.args.class.residue + finer * c.args.class.modulus) % length (rows_of s.table) =
     ap (λ (n : ℕ). n % c.classes-classes.result) at ∙ ap (λ (n : ℕ). (c.args.class.residue + finer * c.args.class.modulus) % n) c.classes-classes.ensures in
-    let here = c.deref-in-loop-finer.ensures.value in
     covers-more s.table s.width (weights_of sum) c.args.class finer index c.loop-finer.range.lo c.loop-finer.range.hi c.wider-range.result.lo c.wider-range.result.hi c.ends.result.lo c.ends.result.hi
     s.lawful (omega (arith, c.loop-finer.auto.finer)) is c.loop-finer.invariant
-    (c.ends.ensures.low ∙ ap (λ (zs : List ℤ). low_end (weights_at s.table sum.behind zs index) (least_sample s.width) (greatest_sample s.width)) here)
-    (c.ends.ensures.high ∙ ap (λ (zs : List ℤ). low_end (weights_at s.table sum.behind zs index) (greatest_sample s.width) (least_sample s.width)) here)
+    c.ends.ensures.low
+    c.ends.ensures.high
     c.wider-range.ensures.low c.wider-range.ensures.high
 
 pub returns : goal.returns

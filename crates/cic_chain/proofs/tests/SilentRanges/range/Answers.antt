@@ -1,5 +1,0 @@
-use Rattle.cic_chain.proofs.SilentLemmas.{IsRange-silent}
-use Rattle.cic_chain.proofs.tests.SilentRanges.range.Goals as goal
-
-pub returns : goal.returns
-returns c = IsRange-silent _ _ _ c.args.self.now.none c.requires.class

@@ -1,0 +1,4 @@
+pub mod Parts
+pub mod Copies
+pub mod Choices
+pub mod Serial
