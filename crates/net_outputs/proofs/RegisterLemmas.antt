@@ -35,7 +35,6 @@ use Rattle.pipeline_balance.proofs.NumberedLemmas.{width-later, IsRegister-later
 use Rattle.pipeline_balance.proofs.PairLemmas.{AddsNode-adds}
 use Rattle.pipeline_balance.proofs.ShapeLemmas.{KeepsShapes-refl, KeepsShapes-trans, KeepsShapes-adds, KeepsShapes-named}
 use Rattle.pipeline_balance.proofs.TakenLemmas.{IsBitOf-later, taken}
-
 use Rattle.net_outputs.specs.Register.{IsCutTo, TakesOver, IsKeptWhole, AddsOutputRegister}
 
 pub IsCutTo-same : (net : NetView) (node : Node) (width : ℕ) → node.place < length net.cells → (cell_at net.cells node.place).width ≡ width → IsCutTo net net node width node

@@ -35,7 +35,6 @@ use Rattle.pipeline_balance.proofs.NumberedLemmas.{width-later, IsRegister-later
 use Rattle.pipeline_balance.proofs.PairLemmas.{AddsNode-adds}
 use Rattle.pipeline_balance.proofs.ShapeLemmas.{KeepsShapes-refl, KeepsShapes-trans, KeepsShapes-adds, KeepsShapes-named}
 use Rattle.pipeline_balance.proofs.TakenLemmas.{IsBitOf-later, taken}
-
 use Rattle.net_outputs.specs.Shown.{AddsShownBit}
 
 pub counter_nameless : {old new : NetView} {ticks : ℕ → Type 0} {bit : Node} → IsCounter old new ticks bit → (cell_at new.cells bit.place).name ≡ None
