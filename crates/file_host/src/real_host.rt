@@ -1,8 +1,8 @@
 // The files of the system. It tells no files.
-ghost use Rattle.std.specs.Prelude.{◌≡◌, ◌≤◌, true, false, length, is_err, is_ok, is_some, IsTrue, IfOk, IfSome, OnOk, OnErr, []};
-ghost use Rattle.std.specs.FinMap.{empty};
+ghost use Rattle.std.specs.Prelude.{◌≡◌, ◌≤◌, true, length, is_err, is_ok, is_some, IsTrue, IfOk, IfSome, OnOk};
 ghost use Rattle.mr_values.specs.Host.{HasCause, Reads, Appends, has_failed};
 ghost use Rattle.file_host.specs.Taken.{IsTaken, IsGiven};
+ghost use Rattle.file_host.specs.Open.{untold};
 
 use mr_values::{Failed, FaultCounts, Host, HostCall, OutFail};
 use std::fs;
@@ -31,7 +31,7 @@ impl<'a, R: Files> RealHost<'a, R> {
 }
 
 impl<'a, R: Files> Host for RealHost<'a, R> {
-    ghost state = { λ host. record { tells = false; has_input = is_some host.input; has_output = is_some host.output; faults = host.faults; struck = 0; files = empty; input = []; place = 0; output = []; ends = λ _. 0 } };
+    ghost state = { λ host. untold (is_some host.input) (is_some host.output) host.faults };
 
     fn open_input(&mut self, name: &str) -> Result<(), Failed> {
         match fs::open(self.rt, name) {
@@ -49,12 +49,12 @@ impl<'a, R: Files> Host for RealHost<'a, R> {
 
     // The last clause is this host's own: no byte that was read is lost.
     fn next(&mut self, room: &mut [u8]) -> Result<usize, Failed>
-        requires { (Self.state self.old).has_input ≡ true }
-        ensures cause { HasCause HostCall.Next (is_err result) (Self.state self.old) (Self.state self.new) }
+        requires { (untold (is_some self.old.input) (is_some self.old.output) self.old.faults).has_input ≡ true }
+        ensures cause { HasCause HostCall.Next (is_err result) (untold (is_some self.old.input) (is_some self.old.output) self.old.faults) (untold (is_some self.new.input) (is_some self.new.output) self.new.faults) }
         ensures within { IfOk result (λ count. count ≤ length room.new) }
-        ensures input { OnOk result ((Self.state self.new).has_input ≡ true) }
-        ensures output { (Self.state self.new).has_output ≡ (Self.state self.old).has_output }
-        ensures told { IsTrue (Self.state self.old).tells → Reads room.new result (Self.state self.old) (Self.state self.new) }
+        ensures input { OnOk result ((untold (is_some self.new.input) (is_some self.new.output) self.new.faults).has_input ≡ true) }
+        ensures output { (untold (is_some self.new.input) (is_some self.new.output) self.new.faults).has_output ≡ (untold (is_some self.old.input) (is_some self.old.output) self.old.faults).has_output }
+        ensures told { IsTrue (untold (is_some self.old.input) (is_some self.old.output) self.old.faults).tells → Reads room.new result (untold (is_some self.old.input) (is_some self.old.output) self.old.faults) (untold (is_some self.new.input) (is_some self.new.output) self.new.faults) }
         ensures given { IfSome self.old.input (λ old. IfSome self.new.input (λ new. IsGiven result room.new (R.File.remaining old) (R.File.remaining new))) }
     {
         let read = match &mut self.input {
@@ -86,11 +86,11 @@ impl<'a, R: Files> Host for RealHost<'a, R> {
 
     // The last clause is this host's own: where all is well the writer has taken the whole piece.
     fn put(&mut self, piece: &[u8]) -> Result<(), OutFail>
-        requires { (Self.state self.old).has_output ≡ true }
-        ensures cause { HasCause HostCall.Put (has_failed result) (Self.state self.old) (Self.state self.new) }
-        ensures output { OnOk result ((Self.state self.new).has_output ≡ true) }
-        ensures input { (Self.state self.new).has_input ≡ (Self.state self.old).has_input }
-        ensures told { IsTrue (Self.state self.old).tells → Appends piece.now result (Self.state self.old) (Self.state self.new) }
+        requires { (untold (is_some self.old.input) (is_some self.old.output) self.old.faults).has_output ≡ true }
+        ensures cause { HasCause HostCall.Put (has_failed result) (untold (is_some self.old.input) (is_some self.old.output) self.old.faults) (untold (is_some self.new.input) (is_some self.new.output) self.new.faults) }
+        ensures output { OnOk result ((untold (is_some self.new.input) (is_some self.new.output) self.new.faults).has_output ≡ true) }
+        ensures input { (untold (is_some self.new.input) (is_some self.new.output) self.new.faults).has_input ≡ (untold (is_some self.old.input) (is_some self.old.output) self.old.faults).has_input }
+        ensures told { IsTrue (untold (is_some self.old.input) (is_some self.old.output) self.old.faults).tells → Appends piece.now result (untold (is_some self.old.input) (is_some self.old.output) self.old.faults) (untold (is_some self.new.input) (is_some self.new.output) self.new.faults) }
         ensures taken { IfSome self.old.output (λ old. IfSome self.new.output (λ new. IsTaken (is_ok result) piece.now (R.File.contents old) (R.File.contents new))) }
     {
         let written = match &mut self.output {
@@ -139,14 +139,15 @@ mod tests {
         host.put(b"pieces").ok().ok_or("put")?;
         host.open_input("real_host_test.txt").ok().ok_or("open")?;
         let mut room = [0; 4];
-        let mut taken = 0;
-        for wanted in ["two ", "piec", "es"] {
-            let count = host.next(&mut room).ok().ok_or("next")?;
-            assert!(rt; count <= room.len());
-            assert_eq!(rt; &room[..count], wanted.as_bytes());
-            taken += count;
-        }
-        assert_eq!(rt; taken, 10);
+        let first = host.next(&mut room).ok().ok_or("next")?;
+        assert_eq!(rt; first, 4);
+        assert_eq!(rt; &room, b"two ");
+        let second = host.next(&mut room).ok().ok_or("next")?;
+        assert_eq!(rt; second, 4);
+        assert_eq!(rt; &room, b"piec");
+        let third = host.next(&mut room).ok().ok_or("next")?;
+        assert_eq!(rt; third, 2);
+        assert_eq!(rt; &room[..2], b"es".as_slice());
         assert_eq!(rt; host.next(&mut room), Ok(0));
         assert_eq!(rt; host.open_input("no such file"), Err(Failed));
         assert_eq!(rt; host.faults.open_input, 1);
