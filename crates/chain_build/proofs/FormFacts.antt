@@ -1,5 +1,5 @@
 -- What a filter of each form that is built does as a stage, how great its sums are, and what it costs.
-use Rattle.std.proofs.Common.{◌≡◌, ℕ, ◌+◌, ◌-◌, ◌/◌, ◌<◌, ◌≤◌, refl, sym, ◌∙◌, ap, arith, subst, List, [], ◌∷◌, length, ℤ, pos, ◌+ℤ◌, ◌-ℤ◌, ◌*ℤ◌, Option, None, Some, Bool, true, false, ◌&&◌}
+use Rattle.std.proofs.Common.{◌≡◌, ℕ, ◌+◌, ◌-◌, ◌/◌, ◌<◌, ◌≤◌, refl, sym, ◌∙◌, ap, arith, List, [], ◌∷◌, length, ℤ, pos, ◌+ℤ◌, ◌-ℤ◌, ◌*ℤ◌, Option, None, Some, Bool, true, false, ◌&&◌}
 use Rattle.std.specs.Prelude.{unsigned_abs, unwrap_or, is_none, ◌||◌}
 use Rattle.std.proofs.Math.Path.{fun_ext}
 use Rattle.std.proofs.lemmas.Int.{ints}
@@ -18,7 +18,6 @@ use Rattle.polyphase_fir.specs.Facts.{polyphase_facts}
 use Rattle.polyphase_fir.proofs.CostLemmas.{adders-phases}
 use Rattle.stage_law.specs.Facts.{StageFacts}
 use Rattle.stage_law.specs.Kinds.{is_linear, carries_uncut}
-use Rattle.stage_law.specs.Registers.{StageRegister}
 use Rattle.stage_law.specs.Streams.{magnitudes}
 use Rattle.symmetric_fir.specs.Facts.{mirror_facts}
 use Rattle.symmetric_fir.proofs.CostLemmas.{mirror-adders}

@@ -12,7 +12,6 @@ use Rattle.plan_check.specs.Groups.{IsGroup}
 use Rattle.rounding_stage.specs.Rounding.{rounding_facts}
 use Rattle.stage_law.specs.Facts.{StageFacts}
 use Rattle.chain_build.specs.Added.{HasFacts}
-use Rattle.chain_build.specs.Forms.{fir_facts}
 use Rattle.chain_build.proofs.FormFacts.{IsFactsOf, CostsAs, fir-is, fir-kind, form-carries, fir-costs}
 
 rounding-is : (shift : ℕ) (mode : Mode) (flow : Flow) → IsFactsOf (Rounding shift mode) flow (rounding_facts shift mode)

@@ -1,5 +1,6 @@
 -- The output register and the bit that is shown, one after the other.
-use Rattle.std.proofs.Common.{◌≡◌, inl, inr, ℕ, ◌+◌, ap, ℤ}
+use Rattle.std.proofs.Common.{◌≡◌, inl, inr, ℕ, ◌+◌, List, refl, ap, ℤ}
+use Rattle.mr_values.specs.declared.plan.Element.{Element}
 use Rattle.net_graph.specs.declared.cell.Node.{Node}
 use Rattle.net_graph.specs.declared.cell.Stream.{Stream}
 use Rattle.net_graph.specs.declared.name.Name.{Name}
@@ -17,8 +18,20 @@ use Rattle.pipeline_balance.specs.Numbered.{name_of}
 use Rattle.pipeline_balance.proofs.CostLemmas.{SameAdders-trans, SameNamed-trans}
 use Rattle.pipeline_balance.proofs.NumberedLemmas.{IsRegister-later}
 use Rattle.pipeline_balance.proofs.ShapeLemmas.{KeepsShapes-trans}
-use Rattle.chain_build.specs.Output.{AddsOutputs}
+use Rattle.chain_build.specs.Added.{IsChained}
+use Rattle.chain_build.specs.Output.{CanShow, AddsOutputs}
 use Rattle.chain_build.proofs.Grown.{IsGrown-lengthens}
+
+-- the outputs may be added behind a chain
+pub can_show : {width ticks : ℕ} {elements : List Element} {old new : NetView} {from to : Stream} → IsChained width ticks elements old new from to → CanShow new to
+can_show chained = record {
+  within = chained.within;
+  data_group = chained.grouped;
+  positive = chained.positive;
+  early = chained.early;
+  free_output = chained.names (name_of 0 Output 0) (λ e. absurd (cc)) refl;
+  free_valid = chained.names (name_of 0 Valid 0) (λ e. absurd (cc)) refl;
+}
 
 valid_apart : name_of 0 Valid 0 ≡ name_of 0 Output 0 → ⊥
 valid_apart e = let k : Valid ≡ Output = ap (λ (x : Name). x.kind) e in absurd (cc)

@@ -1,5 +1,5 @@
 -- The sums of a linear group's peaks stay small.
-use Rattle.std.proofs.Common.{◌≡◌, ◌∙◌, ℕ, ◌+◌, ◌*◌, ◌^◌, ◌<◌, ◌≤◌, max, refl, sym, ap, subst, arith, inl, inr, ◌⊎◌, true, nat_eq, List, [], ◌∷◌, slice_get, Some, ℤ}
+use Rattle.std.proofs.Common.{◌≡◌, ◌∙◌, ℕ, ◌*◌, ◌^◌, ◌<◌, ◌≤◌, max, sym, ap, subst, arith, inl, inr, ◌⊎◌, true, nat_eq, List, slice_get, Some, ℤ}
 use Rattle.std.specs.Prelude.{unwrap_or}
 use Rattle.std.proofs.Math.Nat.{mul-le-mul_left}
 use Rattle.std.proofs.lemmas.Bool.{cases_lt}

@@ -38,7 +38,7 @@ use Rattle.span_ranges.specs.Span.{IsInSpan}
 use Rattle.width_extreme.specs.Prefix.{IsStream}
 use Rattle.chain_build.specs.declared.groups.Added.{Added}
 use Rattle.chain_build.specs.Built.{IsBuiltGroup, AreBuiltGroups, ArePlainGroups, has_rounding}
-use Rattle.chain_build.specs.Added.{IsTaking, IsGroupAdded, IsGrown, AreNameless, IsChained}
+use Rattle.chain_build.specs.Added.{IsTaking, CanAdd, IsGroupAdded, IsGrown, AreNameless, IsChained}
 use Rattle.chain_build.specs.Prefixes.{flow_before}
 use Rattle.chain_build.proofs.Walk.{IsWalk, factors_some, cancel, walk_rate, walk_next, walk_start, walk_most, walk_gain, walk_end, period-whole}
 use Rattle.chain_build.proofs.Pace.{Pace, pace_all, at_once, pace-more, extent-pace, balance-more}
@@ -190,6 +190,21 @@ module _ {width ticks : ℕ} {whole : List Element} {old net : NetView} {from la
   unused mid is = subst (λ (n : NetView). IsUnused n.cells n.group) (sym is) (record {
     free = free_in net.cells number (λ name other same. so.names name other (inl (omega arith)));
   })
+
+  -- the next group may be added
+  pub can_add : (mid : NetView) → mid ≡ record { cells = net.cells; group = number } → CanAdd g (flow_before last.period fact) mid last
+  can_add mid is = record {
+    emits = record {
+      within = subst (λ (n : NetView). last.node.place < length n.cells) (sym is) so.within;
+      group = subst (λ (n : NetView). 1 ≤ n.group) (sym is) so.some;
+      unused = unused mid is;
+      early = early;
+    };
+    built = is_built_head;
+    limits = split.within;
+    takes = taking;
+    fits = is_fitting;
+  }
 
   pub below : fact.span_lo ≤ℤ pos 0
   below = subst (λ (z : ℤ). z ≤ℤ pos 0) (sym span_low) so.zero_in.least

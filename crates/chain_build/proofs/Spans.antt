@@ -3,7 +3,7 @@ use Rattle.std.proofs.Common.{◌≡◌, ℕ, zero, suc, ◌+◌, ◌-◌, ◌*�
 use Rattle.std.specs.Prelude.{unsigned_abs, unwrap_or}
 use Rattle.std.proofs.lemmas.Int.{ints}
 use Rattle.mr_values.specs.declared.plan.Mode.{Mode}
-use Rattle.mr_values.specs.declared.plan.Element.TheVariants.{Round, Clip}
+use Rattle.mr_values.specs.declared.plan.Element.TheVariants.{Round}
 use Rattle.mr_values.specs.declared.plan.Form.{Form}
 use Rattle.mr_values.specs.Sequence.{Sequence, weighted_sum, filter, filter_times, ones, up, down}
 use Rattle.mr_values.specs.Value.{round, round_value, clip}

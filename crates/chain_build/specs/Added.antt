@@ -19,14 +19,15 @@ use Rattle.net_graph.specs.WellFormed.{IsBound, IsFree}
 use Rattle.impulse_phase.specs.Reach.{extent}
 use Rattle.pipeline_balance.specs.Gate.{Carries}
 use Rattle.plan_check.specs.Forms.{Flow, group_fits}
+use Rattle.plan_check.specs.Groups.{IsGroup}
 use Rattle.cic_chain.specs.Facts.{cic_down_facts, cic_up_facts}
 use Rattle.rounding_stage.specs.Rounding.{rounding_facts}
 use Rattle.span_ranges.specs.Span.{IsInSpan}
 use Rattle.stage_law.specs.Facts.{StageFacts}
-use Rattle.stage_law.specs.Realises.{Realises}
+use Rattle.stage_law.specs.Realises.{Realises, IsUnused}
 use Rattle.stage_law.specs.Streams.{Streams}
 use Rattle.chain_build.specs.declared.groups.Added.{Added}
-use Rattle.chain_build.specs.Built.{ArePlainGroups, kind_of}
+use Rattle.chain_build.specs.Built.{ArePlainGroups, IsBuiltGroup, kind_of}
 use Rattle.chain_build.specs.Forms.{fir_facts}
 
 -- what a group is as a stage, on a stream of this flow
@@ -47,6 +48,26 @@ pub record IsTaking (g : Group) (period : ℕ) : Type 0 where
   pub positive : 1 ≤ period
   pub long : period ≤ 2 ^ 31 - 1
   pub whole : period * down_factor g % up_factor g ≡ 0
+
+-- A stage's nodes may be added to the net behind this stream: they will be of a group of which no name is taken, and the stream begins early.
+pub record CanEmit (net : NetView) (from : Stream) : Type 0 where
+  pub within : from.node.place < length net.cells
+  pub group : 1 ≤ net.group
+  pub unused : IsUnused net.cells net.group
+  pub early : from.offset < 2 ^ 31
+
+-- So may those of a group that is built: its numbers are within their limits, and it takes the period and fits the flow of the stream.
+pub record CanAdd (g : Group) (flow : Flow) (net : NetView) (from : Stream) : Type 0 where
+  pub emits : CanEmit net from
+  pub built : IsBuiltGroup g
+  pub limits : IsGroup g
+  pub takes : IsTaking g from.period
+  pub fits : group_fits g flow ≡ true
+
+-- the net has become longer, and its group is as before
+pub record KeepsGroup (old new : NetView) : Type 0 where
+  pub extends : Extends old.cells new.cells
+  pub same_group : new.group ≡ old.group
 
 -- a stage was added that is this, and its form and its cost were told
 pub record IsStageAdded (facts : StageFacts) (streams : Streams) (old new : NetView) (from : Stream) (added : Added) : Type 0 where

@@ -1,5 +1,5 @@
 -- The linear registers of a plan: those of its linear groups before any rounding, and `out_q` where no group rounds.
-use Rattle.std.specs.Prelude.{ℕ, zero, suc, ◌+◌, nat_eq, if◌then◌else◌, Bool, false, Option, None, List, [], ◌∷◌, ◌++◌, map, take, unwrap_or, ℤ, pos}
+use Rattle.std.specs.Prelude.{ℕ, zero, suc, ◌+◌, nat_eq, if◌then◌else◌, Bool, false, Option, None, List, [], ◌∷◌, ◌++◌, map, take, unwrap_or, pos}
 use Rattle.mr_values.specs.declared.plan.Element.{Element}
 use Rattle.mr_values.specs.Timing.{Group, Fir, DownCic, UpCic, Rounding, Clipping, Stream, groups, input, after, last_stream, taps_of, form_of, wide}
 use Rattle.net_graph.specs.declared.name.Name.{Name}

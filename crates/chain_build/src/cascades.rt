@@ -1,13 +1,11 @@
 // The cascade of a group, for each number of stages and each delay.
 
-ghost use Rattle.std.specs.Prelude.{◌≡◌, ℕ, ◌<◌, ◌≤◌, ◌^◌, length, IfOk};
+ghost use Rattle.std.specs.Prelude.{◌≡◌, ℕ, IfOk};
 ghost use Rattle.mr_values.specs.Timing.{DownCic, UpCic};
-ghost use Rattle.net_graph.specs.Grow.{Extends};
 ghost use Rattle.plan_check.specs.Amounts.{gain};
-ghost use Rattle.plan_check.specs.Groups.{group_of, IsGroup};
-ghost use Rattle.stage_law.specs.Realises.{IsUnused};
+ghost use Rattle.plan_check.specs.Groups.{group_of};
 ghost use Rattle.stage_law.specs.Streams.{HasRoom};
-ghost use Rattle.chain_build.specs.Added.{IsCascade, IsTaking, IsGroupAdded};
+ghost use Rattle.chain_build.specs.Added.{IsCascade, CanAdd, KeepsGroup, IsGroupAdded};
 ghost use Rattle.chain_build.specs.Prefixes.{flow_before};
 
 use crate::groups::Added;
@@ -57,16 +55,10 @@ pub(crate) fn cascade_group<R: Ranges>(
     ranges: &R,
 ) -> Result<Added, Memory>
     requires is { IsCascade (group_of group.now) }
-    requires within { from.node.place < length net.old.cells }
-    requires group { 1 ≤ net.old.group }
-    requires unused { IsUnused net.old.cells net.old.group }
-    requires early { from.offset < 2 ^ 31 }
-    requires limits { IsGroup (group_of group.now) }
-    requires takes { IsTaking (group_of group.now) from.period }
+    requires can { CanAdd (group_of group.now) (flow_before from.period fact.now) net.old from }
     requires room { HasRoom (R.streams ranges.now) (gain (group_of group.now)) }
     ensures ok { IfOk result (λ a. IsGroupAdded (group_of group.now) (flow_before from.period fact.now) (R.streams ranges.now) net.old net.new from a) }
-    ensures extends { Extends net.old.cells net.new.cells }
-    ensures same_group { net.new.group ≡ net.old.group }
+    ensures keeps { KeepsGroup net.old net.new }
 {
     match group {
         PlanGroup::CicDown {

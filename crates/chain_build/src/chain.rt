@@ -1,11 +1,8 @@
 // The net of a plan.
 
-ghost use Rattle.std.specs.Prelude.{◌≡◌, ◌≤◌, ◌<◌, ◌^◌, pos, ◌≤ℤ◌, true, false, map, length, IfOk};
+ghost use Rattle.std.specs.Prelude.{◌≡◌, ◌<◌, ◌^◌, pos, ◌≤ℤ◌, true, false, map, length, IfOk};
 ghost use Rattle.mr_values.specs.Timing.{groups};
 ghost use Rattle.mr_values.specs.Value.{size, chain};
-ghost use Rattle.net_graph.specs.WellFormed.{IsFree};
-ghost use Rattle.net_graph.specs.declared.name.NameKind.TheVariants.{Output, Valid};
-ghost use Rattle.pipeline_balance.specs.Numbered.{name_of};
 ghost use Rattle.plan_check.specs.Accepted.{IsAccepted, AreFacts};
 ghost use Rattle.stage_law.specs.Streams.{HasRoom};
 ghost use Rattle.width_extreme.specs.Prefix.{IsStream};
@@ -17,14 +14,14 @@ ghost use Rattle.chain_build.specs.GroupCosts.{HasCosts};
 ghost use Rattle.chain_build.specs.Groups.{AreGrouped};
 ghost use Rattle.chain_build.specs.Linear.{linear, output_range};
 ghost use Rattle.chain_build.specs.LinearNet.{HasLinearRegisters};
-ghost use Rattle.chain_build.specs.Output.{AddsOutputs};
+ghost use Rattle.chain_build.specs.Output.{CanShow, AddsOutputs};
 ghost use Rattle.chain_build.specs.Peaks.{AreOutputPeaks, AddsOutputPeak, AddsChainPeak, ArePeaksOf, as_extreme, exact_output};
 ghost use Rattle.chain_build.specs.Shapes.{HaveLinearItems};
 ghost use Rattle.chain_build.specs.Told.{TellsRegisters};
 
 use crate::extremes::{LinearPeak, RegisterExtreme, extremes_of, keep_peaks, needs_high};
 use crate::forms::is_built_form;
-use crate::groups::{GroupCost, add_groups};
+use crate::groups::{Chained, GroupCost, add_groups};
 use crate::output::{Outputs, add_outputs};
 use crate::prefix::{prefix_ranges, width_of};
 use mr_values::{Element, Memory, Mode, Plan};
@@ -98,12 +95,7 @@ fn add_spanned_outputs(
     from: Stream,
     facts: &Facts,
 ) -> Result<Outputs, Memory>
-    requires within { from.node.place < length net.old.cells }
-    requires data_group { 1 ≤ net.old.group }
-    requires positive { 1 ≤ from.period }
-    requires early { from.offset < 2 ^ 31 }
-    requires free_output { IsFree net.old.cells (name_of 0 Output 0) }
-    requires free_valid { IsFree net.old.cells (name_of 0 Valid 0) }
+    requires can { CanShow net.old from }
     ensures ok { IfOk result (AddsOutputs facts.now.end_lo facts.now.end_hi net.old net.new from) }
 {
     let span = Range {
@@ -139,13 +131,8 @@ fn add_exact_outputs(
     plan: &Plan,
     peaks: &mut Vec<LinearPeak>,
 ) -> Result<Outputs, Memory>
-    requires within { from.node.place < length net.old.cells }
-    requires data_group { 1 ≤ net.old.group }
-    requires positive { 1 ≤ from.period }
+    requires can { CanShow net.old from }
     requires long { from.period < 2 ^ 31 }
-    requires early { from.offset < 2 ^ 31 }
-    requires free_output { IsFree net.old.cells (name_of 0 Output 0) }
-    requires free_valid { IsFree net.old.cells (name_of 0 Valid 0) }
     requires accepted { IsAccepted plan.now }
     requires plain { has_rounding (groups plan.now.elements) ≡ false }
     requires room { HasRoom (IsStream (chain plan.now.elements) (size plan.now.width)) 1 }
@@ -162,34 +149,28 @@ fn add_exact_outputs(
     Ok(outputs)
 }
 
-// Adds the outputs of the chain.
+// Adds the outputs of the chain, whose groups were added.
 fn add_chain_outputs(
     alloc: Global,
     net: &mut Net,
-    from: Stream,
+    chained: &Chained,
     plan: &Plan,
     facts: &Facts,
-    rounded: bool,
     peaks: &mut Vec<LinearPeak>,
 ) -> Result<Outputs, Memory>
-    requires within { from.node.place < length net.old.cells }
-    requires data_group { 1 ≤ net.old.group }
-    requires positive { 1 ≤ from.period }
-    requires long { from.period < 2 ^ 31 }
-    requires early { from.offset < 2 ^ 31 }
-    requires free_output { IsFree net.old.cells (name_of 0 Output 0) }
-    requires free_valid { IsFree net.old.cells (name_of 0 Valid 0) }
+    requires can { CanShow net.old chained.now.stream }
+    requires long { chained.now.stream.period < 2 ^ 31 }
     requires accepted { IsAccepted plan.now }
     requires are_facts { AreFacts (size plan.now.width) (size plan.now.ticks) plan.now.elements facts.now }
-    requires rounded { rounded ≡ has_rounding (groups plan.now.elements) }
+    requires rounded { chained.now.rounded ≡ has_rounding (groups plan.now.elements) }
     requires room { HasRoom (IsStream (chain plan.now.elements) (size plan.now.width)) 1 }
-    ensures ok { IfOk result (λ outputs. AddsOutputs (output_range (size plan.now.width) (size plan.now.ticks) plan.now.elements).lo (output_range (size plan.now.width) (size plan.now.ticks) plan.now.elements).hi net.old net.new from outputs) }
-    ensures peaks { IfOk result (λ _. AddsChainPeak (has_rounding (groups plan.now.elements)) (size plan.now.width) plan.now.elements net.new.cells from peaks.old.items peaks.new.items) }
+    ensures ok { IfOk result (λ outputs. AddsOutputs (output_range (size plan.now.width) (size plan.now.ticks) plan.now.elements).lo (output_range (size plan.now.width) (size plan.now.ticks) plan.now.elements).hi net.old net.new chained.now.stream outputs) }
+    ensures peaks { IfOk result (λ _. AddsChainPeak (has_rounding (groups plan.now.elements)) (size plan.now.width) plan.now.elements net.new.cells chained.now.stream peaks.old.items peaks.new.items) }
 {
-    if rounded {
-        add_spanned_outputs(alloc, net, from, facts)
+    if chained.rounded {
+        add_spanned_outputs(alloc, net, chained.stream, facts)
     } else {
-        add_exact_outputs(alloc, net, from, plan, peaks)
+        add_exact_outputs(alloc, net, chained.stream, plan, peaks)
     }
 }
 
@@ -223,16 +204,7 @@ pub(crate) fn build_told(alloc: Global, plan: &Plan, facts: &Facts) -> Result<To
     };
     let mut peaks = Vec::new(alloc);
     let chained = add_groups(alloc, &mut net, from, plan, facts, &mut peaks)?;
-    let end = chained.stream;
-    let outputs = add_chain_outputs(
-        alloc,
-        &mut net,
-        end,
-        plan,
-        facts,
-        chained.rounded,
-        &mut peaks,
-    )?;
+    let outputs = add_chain_outputs(alloc, &mut net, &chained, plan, facts, &mut peaks)?;
     let extremes = extremes_of(alloc, &peaks)?;
     match net.finish() {
         Ok(net) => Ok(Told {

@@ -1,11 +1,9 @@
 // Filters by their forms: the one place of the code that knows which forms there are.
 
-ghost use Rattle.std.specs.Prelude.{◌≡◌, ℕ, ◌-◌, ◌*◌, ◌%◌, ◌<◌, ◌≤◌, ◌^◌, true, length, IfOk};
+ghost use Rattle.std.specs.Prelude.{◌≡◌, ℕ, ◌-◌, ◌*◌, ◌%◌, ◌≤◌, ◌^◌, true, IfOk};
 ghost use Rattle.mr_values.specs.Value.{AreTaps};
-ghost use Rattle.net_graph.specs.Grow.{Extends};
-ghost use Rattle.stage_law.specs.Realises.{IsUnused};
 ghost use Rattle.stage_law.specs.Streams.{HasRoom, magnitudes};
-ghost use Rattle.chain_build.specs.Added.{IsStageAdded};
+ghost use Rattle.chain_build.specs.Added.{CanEmit, KeepsGroup, IsStageAdded};
 ghost use Rattle.chain_build.specs.Forms.{is_built_form, fir_facts, AsksTaps};
 
 use crate::groups::Added;
@@ -36,10 +34,7 @@ pub(crate) fn add_filter<R: Ranges>(
     rates: Rates,
     ranges: &R,
 ) -> Result<Added, Memory>
-    requires within { from.node.place < length net.old.cells }
-    requires group { 1 ≤ net.old.group }
-    requires unused { IsUnused net.old.cells net.old.group }
-    requires early { from.offset < 2 ^ 31 }
+    requires can { CanEmit net.old from }
     requires built { is_built_form filter.form ≡ true }
     requires taps { AreTaps filter.taps.now }
     requires asks { AsksTaps filter.form filter.taps.now }
@@ -52,8 +47,7 @@ pub(crate) fn add_filter<R: Ranges>(
     requires whole { from.period * rates.down % rates.up ≡ 0 }
     requires room { HasRoom (R.streams ranges.now) (magnitudes filter.taps.now) }
     ensures ok { IfOk result (λ a. (bits : ℕ) → IsStageAdded (fir_facts filter.entry.form filter.entry.taps.now rates.up rates.down bits) (R.streams ranges.now) net.old net.new from a) }
-    ensures extends { Extends net.old.cells net.new.cells }
-    ensures same_group { net.new.group ≡ net.old.group }
+    ensures keeps { KeepsGroup net.old net.new }
 {
     match filter.form {
         Form::Parallel => add_parallel(alloc, net, from, filter.taps, rates, ranges),

@@ -1,26 +1,23 @@
 // The groups of a plan, one after another.
 
-ghost use Rattle.std.specs.Prelude.{◌≡◌, ◌-◌, ◌≤◌, ◌<◌, ◌^◌, pos, ◌≤ℤ◌, [], true, length, IfOk};
+ghost use Rattle.std.specs.Prelude.{◌≡◌, ◌-◌, ◌≤◌, ◌<◌, pos, ◌≤ℤ◌, [], length, IfOk};
 ghost use Rattle.std.specs.Option.{option_map};
 ghost use Rattle.mr_values.specs.Value.{size, chain};
 ghost use Rattle.mr_values.specs.Timing.{groups, taps_of, form_of};
-ghost use Rattle.net_graph.specs.Grow.{Extends};
 ghost use Rattle.net_graph.specs.WellFormed.{IsBound};
 ghost use Rattle.plan_check.specs.Accepted.{IsAccepted, AreFacts};
 ghost use Rattle.plan_check.specs.Amounts.{gain};
-ghost use Rattle.plan_check.specs.Forms.{group_fits};
-ghost use Rattle.plan_check.specs.Groups.{group_of, filter_of, IsGroup};
+ghost use Rattle.plan_check.specs.Groups.{group_of, filter_of};
 ghost use Rattle.span_ranges.specs.Span.{IsInSpan};
-ghost use Rattle.stage_law.specs.Realises.{IsUnused};
 ghost use Rattle.stage_law.specs.Streams.{HasRoom};
 ghost use Rattle.width_extreme.specs.Prefix.{IsStream};
 ghost use Rattle.stage_law.specs.Kinds.{is_linear};
 ghost use Rattle.chain_build.specs.Alike.{HasCascades};
-ghost use Rattle.chain_build.specs.Built.{IsBuiltGroup, AreBuiltGroups, kind_of, rounds, has_rounding};
+ghost use Rattle.chain_build.specs.Built.{AreBuiltGroups, kind_of, rounds, has_rounding};
 ghost use Rattle.chain_build.specs.LinearOn.{HasGroupRegisters};
 ghost use Rattle.chain_build.specs.Peaks.{AddsPeaks, HasGroupPeaks, keeps};
 ghost use Rattle.chain_build.specs.Prefixes.{IsExactPrefix, CanTake, streams_before, elements_before, flow_before};
-ghost use Rattle.chain_build.specs.Added.{IsTaking, IsGroupAdded, AreNameless, IsChained};
+ghost use Rattle.chain_build.specs.Added.{CanAdd, KeepsGroup, IsGroupAdded, AreNameless, IsChained};
 ghost use Rattle.chain_build.specs.GroupCosts.{AreUngrouped, HasCosts};
 ghost use Rattle.chain_build.specs.Groups.{IsGroupedTo};
 ghost use Rattle.chain_build.specs.Shapes.{HaveLinearItems};
@@ -50,6 +47,14 @@ pub struct GroupCost {
 pub(crate) struct Added {
     pub(crate) emitted: Emitted,
     pub(crate) cost: GroupCost,
+}
+
+// A group of a plan, with the plan and the group's facts.
+#[derive(Clone, Copy)]
+struct PlanPart<'a> {
+    plan: &'a Plan,
+    group: &'a PlanGroup<'a>,
+    fact: &'a GroupFacts,
 }
 
 /// The stream after all groups, whether one of them rounds, and what each group costs.
@@ -83,18 +88,10 @@ fn add_group<R: Ranges>(
     fact: &GroupFacts,
     ranges: &R,
 ) -> Result<Added, Memory>
-    requires within { from.node.place < length net.old.cells }
-    requires group { 1 ≤ net.old.group }
-    requires unused { IsUnused net.old.cells net.old.group }
-    requires early { from.offset < 2 ^ 31 }
-    requires built { IsBuiltGroup (group_of group.now) }
-    requires limits { IsGroup (group_of group.now) }
-    requires takes { IsTaking (group_of group.now) from.period }
-    requires fits { group_fits (group_of group.now) (flow_before from.period fact.now) ≡ true }
+    requires can { CanAdd (group_of group.now) (flow_before from.period fact.now) net.old from }
     requires room { HasRoom (R.streams ranges.now) (gain (group_of group.now)) }
     ensures ok { IfOk result (λ a. IsGroupAdded (group_of group.now) (flow_before from.period fact.now) (R.streams ranges.now) net.old net.new from a) }
-    ensures extends { Extends net.old.cells net.new.cells }
-    ensures same_group { net.new.group ≡ net.old.group }
+    ensures keeps { KeepsGroup net.old net.new }
 {
     match group {
         PlanGroup::Round { shift, mode } => {
@@ -131,30 +128,20 @@ fn add_exact(
     alloc: Global,
     net: &mut Net,
     from: Stream,
-    group: &PlanGroup,
-    plan: &Plan,
-    fact: &GroupFacts,
+    part: &PlanPart,
     peaks: &mut Vec<LinearPeak>,
 ) -> Result<Added, Memory>
-    requires within { from.node.place < length net.old.cells }
-    requires group { 1 ≤ net.old.group }
-    requires unused { IsUnused net.old.cells net.old.group }
-    requires early { from.offset < 2 ^ 31 }
-    requires built { IsBuiltGroup (group_of group.now) }
-    requires limits { IsGroup (group_of group.now) }
-    requires takes { IsTaking (group_of group.now) from.period }
-    requires fits { group_fits (group_of group.now) (flow_before from.period fact.now) ≡ true }
-    requires some { 1 ≤ fact.now.first }
-    requires prefix { IsExactPrefix plan.now (fact.now.first - 1) }
-    requires room { HasRoom (IsStream (chain (elements_before plan.now fact.now)) (size plan.now.width)) (gain (group_of group.now)) }
-    ensures ok { IfOk result (λ a. IsGroupAdded (group_of group.now) (flow_before from.period fact.now) (IsStream (chain (elements_before plan.now fact.now)) (size plan.now.width)) net.old net.new from a) }
-    ensures extends { Extends net.old.cells net.new.cells }
-    ensures same_group { net.new.group ≡ net.old.group }
-    ensures peaks { IfOk result (λ a. AddsPeaks (is_linear (kind_of (group_of group.now))) (size plan.now.width) (elements_before plan.now fact.now) from (fact.now.first - 1) a.emitted.peaks.items peaks.old.items peaks.new.items) }
+    requires can { CanAdd (group_of part.now.group.now) (flow_before from.period part.now.fact.now) net.old from }
+    requires some { 1 ≤ part.now.fact.now.first }
+    requires prefix { IsExactPrefix part.now.plan.now (part.now.fact.now.first - 1) }
+    requires room { HasRoom (IsStream (chain (elements_before part.now.plan.now part.now.fact.now)) (size part.now.plan.now.width)) (gain (group_of part.now.group.now)) }
+    ensures ok { IfOk result (λ a. IsGroupAdded (group_of part.now.group.now) (flow_before from.period part.now.fact.now) (IsStream (chain (elements_before part.now.plan.now part.now.fact.now)) (size part.now.plan.now.width)) net.old net.new from a) }
+    ensures keeps { KeepsGroup net.old net.new }
+    ensures peaks { IfOk result (λ a. AddsPeaks (is_linear (kind_of (group_of part.now.group.now))) (size part.now.plan.now.width) (elements_before part.now.plan.now part.now.fact.now) from (part.now.fact.now.first - 1) a.emitted.peaks.items peaks.old.items peaks.new.items) }
 {
-    let taken = fact.first as usize - 1;
-    let ranges = prefix_ranges(alloc, plan, taken)?;
-    let added = add_group(alloc, net, from, group, fact, &ranges)?;
+    let taken = part.fact.first as usize - 1;
+    let ranges = prefix_ranges(alloc, part.plan, taken)?;
+    let added = add_group(alloc, net, from, part.group, part.fact, &ranges)?;
     if is_linear(added.cost.kind) {
         keep_peaks(alloc, peaks, &ranges, &added.emitted.peaks, from, taken)?;
     }
@@ -172,30 +159,16 @@ fn ranges_before(fact: &GroupFacts) -> SpanRanges
 }
 
 // Adds the nodes of a group whose stream lies in its span.
-fn add_spanned(
-    alloc: Global,
-    net: &mut Net,
-    from: Stream,
-    group: &PlanGroup,
-    fact: &GroupFacts,
-) -> Result<Added, Memory>
-    requires within { from.node.place < length net.old.cells }
-    requires group { 1 ≤ net.old.group }
-    requires unused { IsUnused net.old.cells net.old.group }
-    requires early { from.offset < 2 ^ 31 }
-    requires built { IsBuiltGroup (group_of group.now) }
-    requires limits { IsGroup (group_of group.now) }
-    requires takes { IsTaking (group_of group.now) from.period }
-    requires fits { group_fits (group_of group.now) (flow_before from.period fact.now) ≡ true }
-    requires below { fact.now.span_lo ≤ℤ pos 0 }
-    requires above { pos 0 ≤ℤ fact.now.span_hi }
-    requires room { HasRoom (IsInSpan fact.now.span_lo fact.now.span_hi) (gain (group_of group.now)) }
-    ensures ok { IfOk result (λ a. IsGroupAdded (group_of group.now) (flow_before from.period fact.now) (IsInSpan fact.now.span_lo fact.now.span_hi) net.old net.new from a) }
-    ensures extends { Extends net.old.cells net.new.cells }
-    ensures same_group { net.new.group ≡ net.old.group }
+fn add_spanned(alloc: Global, net: &mut Net, from: Stream, part: &PlanPart) -> Result<Added, Memory>
+    requires can { CanAdd (group_of part.now.group.now) (flow_before from.period part.now.fact.now) net.old from }
+    requires below { part.now.fact.now.span_lo ≤ℤ pos 0 }
+    requires above { pos 0 ≤ℤ part.now.fact.now.span_hi }
+    requires room { HasRoom (IsInSpan part.now.fact.now.span_lo part.now.fact.now.span_hi) (gain (group_of part.now.group.now)) }
+    ensures ok { IfOk result (λ a. IsGroupAdded (group_of part.now.group.now) (flow_before from.period part.now.fact.now) (IsInSpan part.now.fact.now.span_lo part.now.fact.now.span_hi) net.old net.new from a) }
+    ensures keeps { KeepsGroup net.old net.new }
 {
-    let ranges = ranges_before(fact);
-    let added = add_group(alloc, net, from, group, fact, &ranges)?;
+    let ranges = ranges_before(part.fact);
+    let added = add_group(alloc, net, from, part.group, part.fact, &ranges)?;
     Ok(added)
 }
 
@@ -204,30 +177,20 @@ fn add_next(
     alloc: Global,
     net: &mut Net,
     from: Stream,
-    group: &PlanGroup,
-    plan: &Plan,
-    fact: &GroupFacts,
+    part: &PlanPart,
     rounded: bool,
     peaks: &mut Vec<LinearPeak>,
 ) -> Result<Added, Memory>
-    requires within { from.node.place < length net.old.cells }
-    requires group { 1 ≤ net.old.group }
-    requires unused { IsUnused net.old.cells net.old.group }
-    requires early { from.offset < 2 ^ 31 }
-    requires built { IsBuiltGroup (group_of group.now) }
-    requires limits { IsGroup (group_of group.now) }
-    requires takes { IsTaking (group_of group.now) from.period }
-    requires fits { group_fits (group_of group.now) (flow_before from.period fact.now) ≡ true }
-    requires can_take { CanTake plan.now fact.now (group_of group.now) rounded }
-    ensures ok { IfOk result (λ a. IsGroupAdded (group_of group.now) (flow_before from.period fact.now) (streams_before rounded (size plan.now.width) (elements_before plan.now fact.now) fact.now.span_lo fact.now.span_hi) net.old net.new from a) }
-    ensures extends { Extends net.old.cells net.new.cells }
-    ensures same_group { net.new.group ≡ net.old.group }
-    ensures peaks { IfOk result (λ a. AddsPeaks (keeps rounded (group_of group.now)) (size plan.now.width) (elements_before plan.now fact.now) from (fact.now.first - 1) a.emitted.peaks.items peaks.old.items peaks.new.items) }
+    requires can { CanAdd (group_of part.now.group.now) (flow_before from.period part.now.fact.now) net.old from }
+    requires can_take { CanTake part.now.plan.now part.now.fact.now (group_of part.now.group.now) rounded }
+    ensures ok { IfOk result (λ a. IsGroupAdded (group_of part.now.group.now) (flow_before from.period part.now.fact.now) (streams_before rounded (size part.now.plan.now.width) (elements_before part.now.plan.now part.now.fact.now) part.now.fact.now.span_lo part.now.fact.now.span_hi) net.old net.new from a) }
+    ensures keeps { KeepsGroup net.old net.new }
+    ensures peaks { IfOk result (λ a. AddsPeaks (keeps rounded (group_of part.now.group.now)) (size part.now.plan.now.width) (elements_before part.now.plan.now part.now.fact.now) from (part.now.fact.now.first - 1) a.emitted.peaks.items peaks.old.items peaks.new.items) }
 {
     if rounded {
-        add_spanned(alloc, net, from, group, fact)
+        add_spanned(alloc, net, from, part)
     } else {
-        add_exact(alloc, net, from, group, plan, fact, peaks)
+        add_exact(alloc, net, from, part, peaks)
     }
 }
 
@@ -270,7 +233,12 @@ pub(crate) fn add_groups(
             unreachable!()
         };
         net.set_group(number);
-        let added = add_next(alloc, net, last, &group, plan, fact, rounded, peaks)?;
+        let part = PlanPart {
+            plan,
+            group: &group,
+            fact,
+        };
+        let added = add_next(alloc, net, last, &part, rounded, peaks)?;
         last = added.emitted.stream;
         costs.push(added.cost)?;
         rounded |= is_rounding(&group);

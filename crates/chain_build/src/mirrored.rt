@@ -1,14 +1,12 @@
 // A filter with mirrored taps before a Down.
 
-ghost use Rattle.std.specs.Prelude.{◌≡◌, ◌<◌, ◌≤◌, ◌^◌, ◌||◌, true, length, IfOk};
+ghost use Rattle.std.specs.Prelude.{◌≡◌, ◌≤◌, ◌||◌, true, IfOk};
 ghost use Rattle.mr_values.specs.Value.{AreTaps};
-ghost use Rattle.net_graph.specs.Grow.{Extends};
 ghost use Rattle.plan_check.specs.Forms.{is_symmetric, is_antisymmetric};
-ghost use Rattle.stage_law.specs.Realises.{IsUnused};
 ghost use Rattle.stage_law.specs.Streams.{HasRoom, magnitudes};
 ghost use Rattle.symmetric_fir.specs.Facts.{mirror_facts, TakesPeriod};
 ghost use Rattle.symmetric_fir.specs.Pairs.{IsMirrored};
-ghost use Rattle.chain_build.specs.Added.{IsStageAdded};
+ghost use Rattle.chain_build.specs.Added.{CanEmit, KeepsGroup, IsStageAdded};
 ghost use Rattle.chain_build.specs.Forms.{anti_of};
 
 use crate::groups::Added;
@@ -29,10 +27,7 @@ fn add_mirror<const ANTI: usize, R: Ranges>(
     down: u32,
     ranges: &R,
 ) -> Result<Added, Memory>
-    requires within { from.node.place < length net.old.cells }
-    requires group { 1 ≤ net.old.group }
-    requires unused { IsUnused net.old.cells net.old.group }
-    requires early { from.offset < 2 ^ 31 }
+    requires can { CanEmit net.old from }
     requires taps { AreTaps taps.now }
     requires mirrored { IsMirrored ANTI taps.now }
     requires down_low { 1 ≤ down }
@@ -40,8 +35,7 @@ fn add_mirror<const ANTI: usize, R: Ranges>(
     requires takes { TakesPeriod from.period }
     requires room { HasRoom (R.streams ranges.now) (magnitudes taps.now) }
     ensures ok { IfOk result (λ a. IsStageAdded (mirror_facts ANTI taps.now down) (R.streams ranges.now) net.old net.new from a) }
-    ensures extends { Extends net.old.cells net.new.cells }
-    ensures same_group { net.new.group ≡ net.old.group }
+    ensures keeps { KeepsGroup net.old net.new }
 {
     let stage = Mirror::<ANTI>::new(alloc, taps, down)?;
     let added = emit_stage(alloc, net, from, &stage, ranges)?;
@@ -57,10 +51,7 @@ pub(crate) fn add_mirrored<R: Ranges>(
     down: u32,
     ranges: &R,
 ) -> Result<Added, Memory>
-    requires within { from.node.place < length net.old.cells }
-    requires group { 1 ≤ net.old.group }
-    requires unused { IsUnused net.old.cells net.old.group }
-    requires early { from.offset < 2 ^ 31 }
+    requires can { CanEmit net.old from }
     requires taps { AreTaps taps.now }
     requires mirrored { (is_symmetric taps.now || is_antisymmetric taps.now) ≡ true }
     requires down_low { 1 ≤ down }
@@ -68,8 +59,7 @@ pub(crate) fn add_mirrored<R: Ranges>(
     requires takes { TakesPeriod from.period }
     requires room { HasRoom (R.streams ranges.now) (magnitudes taps.now) }
     ensures ok { IfOk result (λ a. IsStageAdded (mirror_facts (anti_of taps.now) taps.now down) (R.streams ranges.now) net.old net.new from a) }
-    ensures extends { Extends net.old.cells net.new.cells }
-    ensures same_group { net.new.group ≡ net.old.group }
+    ensures keeps { KeepsGroup net.old net.new }
 {
     if is_symmetric(taps) {
         add_mirror::<0, R>(alloc, net, from, taps, down, ranges)

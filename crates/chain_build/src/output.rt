@@ -1,10 +1,7 @@
 // The outputs of a net.
 
-ghost use Rattle.std.specs.Prelude.{◌≤◌, ◌<◌, ◌^◌, length, IfOk};
-ghost use Rattle.net_graph.specs.WellFormed.{IsFree};
-ghost use Rattle.net_graph.specs.declared.name.NameKind.TheVariants.{Output, Valid};
-ghost use Rattle.pipeline_balance.specs.Numbered.{name_of};
-ghost use Rattle.chain_build.specs.Output.{AddsOutputs};
+ghost use Rattle.std.specs.Prelude.{IfOk};
+ghost use Rattle.chain_build.specs.Output.{CanShow, AddsOutputs};
 
 use mr_values::Memory;
 use net_graph::{Net, Node, Stream};
@@ -27,12 +24,7 @@ pub(crate) fn add_outputs(
     from: Stream,
     range: Range,
 ) -> Result<Outputs, Memory>
-    requires within { from.node.place < length net.old.cells }
-    requires data_group { 1 ≤ net.old.group }
-    requires positive { 1 ≤ from.period }
-    requires early { from.offset < 2 ^ 31 }
-    requires free_output { IsFree net.old.cells (name_of 0 Output 0) }
-    requires free_valid { IsFree net.old.cells (name_of 0 Valid 0) }
+    requires can { CanShow net.old from }
     ensures ok { IfOk result (AddsOutputs range.lo range.hi net.old net.new from) }
 {
     let out_q = output_register(alloc, net, from, range)?;

@@ -1,12 +1,10 @@
 // A parallel filter between an Up and a Down.
 
-ghost use Rattle.std.specs.Prelude.{◌≡◌, ◌<◌, ◌≤◌, ◌^◌, length, IfOk};
+ghost use Rattle.std.specs.Prelude.{◌≤◌, IfOk};
 ghost use Rattle.mr_values.specs.Value.{AreTaps};
-ghost use Rattle.net_graph.specs.Grow.{Extends};
 ghost use Rattle.polyphase_fir.specs.Facts.{polyphase_facts, TakesPeriod};
-ghost use Rattle.stage_law.specs.Realises.{IsUnused};
 ghost use Rattle.stage_law.specs.Streams.{HasRoom, magnitudes};
-ghost use Rattle.chain_build.specs.Added.{IsStageAdded};
+ghost use Rattle.chain_build.specs.Added.{CanEmit, KeepsGroup, IsStageAdded};
 
 use crate::groups::Added;
 use crate::stages::emit_stage;
@@ -25,10 +23,7 @@ pub(crate) fn add_parallel<R: Ranges>(
     rates: Rates,
     ranges: &R,
 ) -> Result<Added, Memory>
-    requires within { from.node.place < length net.old.cells }
-    requires group { 1 ≤ net.old.group }
-    requires unused { IsUnused net.old.cells net.old.group }
-    requires early { from.offset < 2 ^ 31 }
+    requires can { CanEmit net.old from }
     requires taps { AreTaps taps.now }
     requires up_low { 1 ≤ rates.up }
     requires up_high { rates.up ≤ 4096 }
@@ -37,8 +32,7 @@ pub(crate) fn add_parallel<R: Ranges>(
     requires takes { TakesPeriod rates.up rates.down from.period }
     requires room { HasRoom (R.streams ranges.now) (magnitudes taps.now) }
     ensures ok { IfOk result (λ a. IsStageAdded (polyphase_facts taps.now rates.up rates.down) (R.streams ranges.now) net.old net.new from a) }
-    ensures extends { Extends net.old.cells net.new.cells }
-    ensures same_group { net.new.group ≡ net.old.group }
+    ensures keeps { KeepsGroup net.old net.new }
 {
     let stage = Polyphase::new(alloc, taps, rates)?;
     let added = emit_stage(alloc, net, from, &stage, ranges)?;

@@ -1,10 +1,8 @@
 // One stage in a net.
 
-ghost use Rattle.std.specs.Prelude.{◌≡◌, ◌<◌, ◌≤◌, ◌^◌, length, IfOk};
-ghost use Rattle.net_graph.specs.Grow.{Extends};
-ghost use Rattle.stage_law.specs.Realises.{IsUnused};
+ghost use Rattle.std.specs.Prelude.{IfOk};
 ghost use Rattle.stage_law.specs.Streams.{HasRoom};
-ghost use Rattle.chain_build.specs.Added.{IsStageAdded};
+ghost use Rattle.chain_build.specs.Added.{CanEmit, KeepsGroup, IsStageAdded};
 
 use crate::groups::{Added, GroupCost};
 use mr_values::Memory;
@@ -20,16 +18,12 @@ pub(crate) fn emit_stage<S: Stage, R: Ranges>(
     stage: &S,
     ranges: &R,
 ) -> Result<Added, Memory>
-    requires within { from.node.place < length net.old.cells }
-    requires group { 1 ≤ net.old.group }
-    requires unused { IsUnused net.old.cells net.old.group }
-    requires early { from.offset < 2 ^ 31 }
+    requires can { CanEmit net.old from }
     requires takes { S.takes stage.now from.period }
     requires admits { S.admits stage.now (R.streams ranges.now) }
     requires room { HasRoom (R.streams ranges.now) (S.facts stage.now).gain }
     ensures ok { IfOk result (λ a. IsStageAdded (S.facts stage.now) (R.streams ranges.now) net.old net.new from a) }
-    ensures extends { Extends net.old.cells net.new.cells }
-    ensures same_group { net.new.group ≡ net.old.group }
+    ensures keeps { KeepsGroup net.old net.new }
 {
     let emitted = stage.emit(alloc, net, from, ranges)?;
     let cost = GroupCost {

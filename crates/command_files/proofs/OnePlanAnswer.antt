@@ -1,14 +1,11 @@
 -- A plan file is refused for one reason.
-use Rattle.std.proofs.Common.{◌≡◌, ◌∙◌, ℕ, ℤ, List, [], ◌∷◌, ◌++◌, Some, None, Result, Ok, Err, ◌⊎◌, inl, inr, refl, sym, ap, subst}
+use Rattle.std.proofs.Common.{◌≡◌, ◌∙◌, ℕ, ℤ, List, [], ◌∷◌, ◌++◌, Some, Result, Ok, Err, ◌⊎◌, inl, inr, refl, sym, ap, subst}
 use Rattle.std.proofs.lemmas.Option.{same_Some}
-use Rattle.std.specs.FinMap.{get}
 use Rattle.mr_values.specs.Files.{Files}
-use Rattle.mr_values.specs.declared.plan.Plan.{Plan}
 use Rattle.plan_check.specs.declared.fault.PlanFault.{PlanFault}
 use Rattle.plan_check.specs.Accepted.{first_fault}
 use Rattle.plan_reader.specs.declared.fault.PlanReadFault.{PlanReadFault}
 use Rattle.plan_reader.specs.declared.fault.PlanReadFault.TheVariants.{NotToml, Field, Version, Memory}
-use Rattle.plan_reader.specs.declared.fault.TapFault.{TapFault}
 use Rattle.plan_reader.specs.declared.fault.TapFault.TheVariants.{Bad}
 use Rattle.plan_reader.specs.declared.fault.TapWhy.{TapWhy}
 use Rattle.plan_reader.specs.declared.plan_texts.PlanText.{PlanText}
@@ -17,7 +14,7 @@ use Rattle.plan_reader.specs.Documents.{Says}
 use Rattle.command_files.specs.declared.fault.CommandFault.{CommandFault}
 use Rattle.command_files.specs.declared.fault.CommandFault.TheVariants as fault
 use Rattle.command_files.specs.declared.fault.FileKind.TheVariants as file
-use Rattle.command_files.specs.PlanFile.{HasFile, HasTaps, Fills, IsTooLong, IsReached, HasLongTaps, HasBadTaps, SaysText, IsUnread, IsUnreadFile, IsUnacceptedFile, IsRefusedPlan}
+use Rattle.command_files.specs.PlanFile.{HasTaps, Fills, IsTooLong, IsReached, HasLongTaps, HasBadTaps, SaysText, IsUnread, IsUnreadFile, IsUnacceptedFile, IsRefusedPlan}
 use Rattle.command_files.proofs.AcceptSteps.{same_bytes, same_said, same_text, same_taps, same_plan, isnt_long, no_document, unread_isnt_said, has_each, has_taps}
 
 -- ---- which tap file is reached first

@@ -14,7 +14,7 @@ use Rattle.command_files.specs.declared.fault.CommandFault.TheVariants as fault
 use Rattle.command_files.specs.declared.fault.FileKind.TheVariants as file
 use Rattle.command_files.specs.Ends.{AreNoFewer}
 use Rattle.command_files.specs.PlanFile.{SaysPlan, AreReadToEnd, Fills, last_name}
-use Rattle.command_files.specs.Reading.{CheckAnswer, IsReadPlan, ReadsPlan, ReadsTapFiles}
+use Rattle.command_files.specs.Reading.{CheckAnswer, IsReadPlan, IsVersionedFile, ReadsPlan, ReadsTapFiles}
 use Rattle.command_files.specs.WholeFiles.{ReadsFile}
 use Rattle.command_files.proofs.EndsKept.{ended_before, ended_after}
 
@@ -37,13 +37,18 @@ module _ (name : List ℕ) (bytes : Vec ℕ Global) (text : PlanText) (plan : Pl
     end = subst (λ (files : Files). drop two.place (bytes_of files two.input) ≡ []) (taps.files ∙ first.files) (taps.end first.end);
   }
 
-  accepted_file : (accepted : AcceptedPlan) → CheckAnswer plan (Ok accepted) → IsReadPlan name accepted.plan old two
+  accepted_file : (accepted : AcceptedPlan) → CheckAnswer text.version plan (Ok accepted) → IsReadPlan name accepted.plan old two
   unfolding says
-  accepted_file accepted (same, is) = subst (λ (p : Plan). IsReadPlan name p old two) (sym same)
+  accepted_file accepted (same, version, is) = subst (λ (p : Plan). IsReadPlan name p old two) (sym same)
       (record { file = record { says = says; accepted = subst (λ (p : Plan). IsAccepted p) same is.passes }; ended = ended })
 
-  pub plan_read : (result : Result AcceptedPlan CommandFault) → CheckAnswer plan result → ReadsPlan name result old two
-  plan_read (Ok accepted) answer = let read = accepted_file accepted answer in record { answer = read.file; ended = read; files = taps.files ∙ first.files }
-  plan_read (Err (fault.Plan why)) answer = record { answer = record { plan = plan; says = says; first = answer }; ended = tt; files = taps.files ∙ first.files }
-  plan_read (Err fault.Memory) answer = record { answer = tt; ended = tt; files = taps.files ∙ first.files }
+  versioned_file : (accepted : AcceptedPlan) → CheckAnswer text.version plan (Ok accepted) → IsVersionedFile name old.files accepted.version accepted.plan
+  unfolding says
+  versioned_file accepted (same, version, is) = subst (λ (p : Plan). IsVersionedFile name old.files accepted.version p) (sym same)
+      (record { file = record { says = says; accepted = subst (λ (p : Plan). IsAccepted p) same is.passes }; version_is = sym version })
+
+  pub plan_read : (result : Result AcceptedPlan CommandFault) → CheckAnswer text.version plan result → ReadsPlan name result old two
+  plan_read (Ok accepted) answer = let read = accepted_file accepted answer in record { answer = read.file; ended = read; versioned = versioned_file accepted answer; files = taps.files ∙ first.files }
+  plan_read (Err (fault.Plan why)) answer = record { answer = record { plan = plan; says = says; first = answer }; ended = tt; versioned = tt; files = taps.files ∙ first.files }
+  plan_read (Err fault.Memory) answer = record { answer = tt; ended = tt; versioned = tt; files = taps.files ∙ first.files }
   plan_read (Err _) answer = absurd answer

@@ -11,8 +11,8 @@ use Rattle.mr_values.specs.declared.plan.Plan.{Plan}
 use Rattle.plan_reader.specs.declared.plan_texts.PlanText.{PlanText}
 use Rattle.plan_reader.specs.declared.plan_texts.TapFile.{TapFile}
 use Rattle.plan_reader.specs.Tapped.{plan_tapped}
-use Rattle.plan_reader.proofs.FirstSteps.{tapped_number-first}
-use Rattle.mr_values.specs.Value.{AreFirst}
+use Rattle.plan_reader.proofs.VersionSteps.{tapped_number-versioned}
+use Rattle.plan_reader.specs.Versions.{IsVersioned}
 use Rattle.command_files.specs.declared.fault.CommandFault.{CommandFault}
 use Rattle.command_files.specs.declared.fault.CommandFault.TheVariants as fault
 use Rattle.command_files.specs.declared.fault.FileKind.TheVariants as file
@@ -50,7 +50,7 @@ pub record TapsSoFar (text : PlanText) (count : ℕ) (now_text : PlanText) (star
   pub same_kind : now.tells ≡ start.tells
   pub unmoved : now.faults ≡ start.faults
   pub told : IsTrue start.tells → ToldTaps text count now_text.plan start now
-  pub first : AreFirst now_text.plan.elements
+  pub versioned : IsVersioned text.version now_text.plan.elements
 
 pub file-at : (named slice : List TapFile) (i : ℕ) (tap_file : TapFile) → tap_file ≡ get_or slice i tap_file → slice ≡ named → get_or named i tap_file ≡ tap_file
 file-at named slice i tap_file is same = ap (λ (files : List TapFile). get_or files i tap_file) (sym same) ∙ sym is
@@ -93,7 +93,7 @@ taps-next text now_text next_text i tap_file taps start now later sofar h at end
   unmoved = ended.blamed ∙ sofar.unmoved;
   told = λ told. let told' = sofar.same_kind ∙ told in
       subst (λ (p : Plan). ToldTaps text (i + 1) p start later) (sym plan) (told-next text i now_text.plan tap_file taps start now later h at (sofar.told told) (ended.struck told') (ended.ends told') (reads told'));
-  first = subst (λ (p : Plan). AreFirst p.elements) (sym plan) (tapped_number-first tap_file.element taps.items now_text.plan.elements sofar.first);
+  versioned = subst (λ (p : Plan). IsVersioned text.version p.elements) (sym plan) (tapped_number-versioned text.version tap_file.element taps.items now_text.plan.elements sofar.versioned);
 }
 
 -- so far no host call failed

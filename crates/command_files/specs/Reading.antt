@@ -3,7 +3,7 @@ use Rattle.std.specs.Prelude.{◌≡◌, ℕ, ℤ, List, [], Some, Result, Ok, E
 use Rattle.std.specs.declared.alloc.Global.{Global}
 use Rattle.mr_values.specs.Files.{Files}
 use Rattle.mr_values.specs.Host.{HostState, left_of}
-use Rattle.mr_values.specs.Value.{size, AreFirst}
+use Rattle.mr_values.specs.Value.{size}
 use Rattle.mr_values.specs.declared.host.HostCall.TheVariants.{OpenInput, Next}
 use Rattle.mr_values.specs.declared.plan.Plan.{Plan}
 use Rattle.plan_check.specs.Accepted.{first_fault, IsAccepted, AreFacts}
@@ -11,6 +11,7 @@ use Rattle.plan_reader.specs.declared.fault.TapFault.TheVariants.{Bad}
 use Rattle.plan_reader.specs.declared.plan_texts.PlanText.{PlanText}
 use Rattle.plan_reader.specs.declared.plan_texts.TapFile.{TapFile}
 use Rattle.plan_reader.specs.Documents.{Says}
+use Rattle.plan_reader.specs.Versions.{IsVersioned}
 use Rattle.command_files.specs.declared.accept.AcceptedPlan.{AcceptedPlan}
 use Rattle.command_files.specs.declared.fault.CommandFault.{CommandFault}
 use Rattle.command_files.specs.declared.fault.CommandFault.TheVariants.{FileTooLong, HostFault, Memory, PlanRead, Tap}
@@ -62,23 +63,28 @@ pub record ReadsTapFiles (text : PlanText) (result : Result Plan CommandFault) (
   pub ended : OnOk result (All (λ tap_file. IsReadToEnd tap_file.name old new) text.files)
   pub files : new.files ≡ old.files
 
--- a plan is accepted, and these are its facts; its elements are of version 1
+-- a plan is accepted, these are its facts, and its version knows its elements
 pub record IsAcceptedPlan (accepted : AcceptedPlan) : Type 0 where
   pub passes : IsAccepted accepted.plan
   pub are_facts : AreFacts (size accepted.plan.width) (size accepted.plan.ticks) accepted.plan.elements accepted.facts
-  pub first : AreFirst accepted.plan.elements
+  pub versioned : IsVersioned accepted.version accepted.plan.elements
 
--- what is answered for a plan
-abbrev pub CheckAnswer : Plan → Result AcceptedPlan CommandFault → Type 0
-CheckAnswer plan (Ok accepted) = (accepted.plan ≡ plan) × IsAcceptedPlan accepted
-CheckAnswer plan (Err (fault.Plan why)) = first_fault plan ≡ Some why
-CheckAnswer plan (Err Memory) = Unit {0}
-CheckAnswer plan (Err _) = ⊥
+-- what is answered for a plan of a version
+abbrev pub CheckAnswer : ℕ → Plan → Result AcceptedPlan CommandFault → Type 0
+CheckAnswer version plan (Ok accepted) = (accepted.plan ≡ plan) × (accepted.version ≡ version) × IsAcceptedPlan accepted
+CheckAnswer version plan (Err (fault.Plan why)) = first_fault plan ≡ Some why
+CheckAnswer version plan (Err Memory) = Unit {0}
+CheckAnswer version plan (Err _) = ⊥
 
 -- PLAN was read with its tap files, and says this plan, which is accepted; each of these files was read to its end
 pub record IsReadPlan (name : List ℕ) (plan : Plan) (old new : HostState) : Type 0 where
   pub file : IsAcceptedFile name old.files plan
   pub ended : AreReadToEnd name file.says.text old new
+
+-- PLAN says this accepted plan in this version
+pub record IsVersionedFile (name : List ℕ) (files : Files) (version : ℕ) (plan : Plan) : Type 0 where
+  pub file : IsAcceptedFile name files plan
+  pub version_is : file.says.text.version ≡ version
 
 -- what is answered for PLAN and its tap files
 abbrev pub PlanAnswer : List ℕ → Files → Result AcceptedPlan CommandFault → Type 0
@@ -92,4 +98,5 @@ PlanAnswer name files (Err why) = IsRefusedPlan name files why
 pub record ReadsPlan (name : List ℕ) (result : Result AcceptedPlan CommandFault) (old new : HostState) : Type 0 where
   pub answer : PlanAnswer name old.files result
   pub ended : IfOk result (λ accepted. IsReadPlan name accepted.plan old new)
+  pub versioned : IfOk result (λ accepted. IsVersionedFile name old.files accepted.version accepted.plan)
   pub files : new.files ≡ old.files

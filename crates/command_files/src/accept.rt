@@ -1,6 +1,6 @@
 // Plans and their tap files, read from a host, and which of them are accepted.
 ghost use Rattle.std.specs.Prelude.{◌≡◌, IfOk, IfErr, IsTrue};
-ghost use Rattle.mr_values.specs.Value.{AreFirst};
+ghost use Rattle.plan_reader.specs.Versions.{IsVersioned};
 ghost use Rattle.command_files.specs.Ends.{EndsWith, IsThisFile, call_of};
 ghost use Rattle.command_files.specs.Conversions.{fault_of_taps, IsPlain};
 ghost use Rattle.command_files.specs.PlanFile.{IsTapFile, IsOfPlan};
@@ -16,9 +16,10 @@ use std::alloc::Global;
 /// The most bytes of a plan file and of a tap file.
 pub const FILE_LIMIT: usize = 1 << 20;
 
-/// A plan that is accepted, and its facts.
+/// A plan that is accepted, the version of its file, and its facts.
 #[derive(Drop)]
 pub struct AcceptedPlan {
+    pub version: u8,
     pub plan: Plan,
     pub facts: Facts,
 }
@@ -38,15 +39,16 @@ pub fn read_accepted<H: Host>(
 {
     let bytes = read_file(alloc, host, name, FileKind::Plan, FILE_LIMIT)?;
     let text = text_of(alloc, &bytes)?;
+    let version = text.version;
     let plan = read_tap_files(alloc, host, text)?;
-    accept(alloc, plan)
+    accept(alloc, version, plan)
 }
 
 // The plan that the bytes of PLAN say, and the tap files that they name.
 fn text_of(alloc: Global, bytes: &[u8]) -> Result<PlanText, CommandFault>
     ensures plain { IfErr result IsPlain }
     ensures answer { TextAnswer bytes.now result }
-    ensures first { IfOk result (λ text. AreFirst text.plan.elements) }
+    ensures versioned { IfOk result (λ text. IsVersioned text.version text.plan.elements) }
 {
     Ok(read_plan(alloc, bytes)?)
 }
@@ -57,8 +59,8 @@ fn read_tap_files<H: Host>(
     host: &mut H,
     mut text: PlanText,
 ) -> Result<Plan, CommandFault>
-    requires first { AreFirst text.plan.elements }
-    ensures first { IfOk result (λ plan. AreFirst plan.elements) }
+    requires versioned { IsVersioned text.version text.plan.elements }
+    ensures versioned { IfOk result (λ plan. IsVersioned text.version plan.elements) }
     ensures plain { IfErr result IsPlain }
     ensures cause { EndsWith (IsTapFile text) (call_of result) (H.state host.old) (H.state host.new) }
     ensures told { IsTrue (H.state host.old).tells → ReadsTapFiles text result (H.state host.old) (H.state host.new) }
@@ -69,7 +71,11 @@ fn read_tap_files<H: Host>(
         let taps = read_tap_file(alloc, host, file)?;
         text.set_taps(element, taps);
     }
-    let PlanText { plan, files: _ } = text;
+    let PlanText {
+        version: _,
+        plan,
+        files: _,
+    } = text;
     Ok(plan)
 }
 
@@ -91,13 +97,17 @@ fn read_tap_file<H: Host>(
 }
 
 // The plan with its facts, where it passes all tests.
-fn accept(alloc: Global, plan: Plan) -> Result<AcceptedPlan, CommandFault>
-    requires { AreFirst plan.elements }
+fn accept(alloc: Global, version: u8, plan: Plan) -> Result<AcceptedPlan, CommandFault>
+    requires { IsVersioned version plan.elements }
     ensures plain { IfErr result IsPlain }
-    ensures answer { CheckAnswer plan result }
+    ensures answer { CheckAnswer version plan result }
 {
     let facts = check_plan(alloc, &plan)?;
-    Ok(AcceptedPlan { plan, facts })
+    Ok(AcceptedPlan {
+        version,
+        plan,
+        facts,
+    })
 }
 
 fn fault_of_taps(element: u32, why: TapFault) -> CommandFault

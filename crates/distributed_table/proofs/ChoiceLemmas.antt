@@ -160,7 +160,7 @@ module _ {a b d new : NetView} {yes no root : Node} {width : ℕ} (c : ℤ) (cs 
 
 -- ---- from a place of a run on
 
-triangle : (a b : ℤ) → unsigned_abs (a +ℤ b) ≤ unsigned_abs a + unsigned_abs b
+pub triangle : (a b : ℤ) → unsigned_abs (a +ℤ b) ≤ unsigned_abs a + unsigned_abs b
 triangle (pos a) (pos b) = omega (arith, ints)
 triangle (pos a) (negsuc b) = omega (arith, ints)
 triangle (negsuc a) (pos b) = omega (arith, ints)

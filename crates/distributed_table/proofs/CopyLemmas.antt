@@ -160,7 +160,7 @@ plain_high cells group place s = passes place s.cell s.of s.there (ap passed_on 
 item_kept : {old new : List Cell} (place : ℕ) (cell : Cell) (item : Item) (e : Extends old new) (there : slice_get old place ≡ Some cell) → cell.item ≡ Some item → (e.keeps place cell there).cell.item ≡ Some item
 item_kept place cell item e there is = (e.keeps place cell there).item (subst (λ (i : Option Item). IsSome i) (sym is) refl) ∙ is
 
-SelectsRegister-later : {old new : List Cell} {place : ℕ} → Extends old new → SelectsRegister old place → SelectsRegister new place
+pub SelectsRegister-later : {old new : List Cell} {place : ℕ} → Extends old new → SelectsRegister old place → SelectsRegister new place
 SelectsRegister-later {old} {new} {place} e s = record {
   cell = (e.keeps place s.cell s.there).cell;
   there = (e.keeps place s.cell s.there).there;

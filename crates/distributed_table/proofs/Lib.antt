@@ -4,3 +4,8 @@ pub mod CopyLemmas
 pub mod NameLemmas
 pub mod ChoiceLemmas
 pub mod SerialLemmas
+pub mod EndLemmas
+pub mod RunLemmas
+pub mod TotalLemmas
+pub mod ShownLemmas
+pub mod AroundLemmas

@@ -23,7 +23,7 @@ use Rattle.net_graph.proofs.NetLemmas.{Extends-adds, IsRun-keeps, cell_of_added,
 use Rattle.net_graph.proofs.GrowLemmas.{named_own, Grows-trans, Grows-data, GrowsBut, GrowsBut-register, GrowsBut-adds, GrowsBut-unbound, Grows-bind, Extends-grown, cell_of_grown}
 use Rattle.pipeline_balance.specs.Costs.{SameNamed}
 use Rattle.pipeline_balance.specs.Gate.{IsTickOf, IsBitOf}
-use Rattle.pipeline_balance.specs.Numbered.{name_of}
+use Rattle.pipeline_balance.specs.Numbered.{LeavesFree, name_of}
 use Rattle.pipeline_balance.proofs.CostLemmas.{SameNamed-trans, SameNamed-adds, SameNamed-register, SameNamed-bind}
 use Rattle.pipeline_balance.proofs.CounterLemmas.{there_bound, there_then}
 use Rattle.pipeline_balance.proofs.NumberedLemmas.{free_register, free_adds, free_bind}
@@ -139,6 +139,11 @@ module _ {n0 n1 n2 n3 n4 n5 n6 n7 : NetView} {begin table zero negated sum doubl
   serial_named : SameNamed n0.cells n7.cells
   serial_named = SameNamed-trans (SameNamed-adds a1) (SameNamed-trans (SameNamed-adds a2) (SameNamed-trans (SameNamed-register refl refl a3) (SameNamed-trans (SameNamed-adds a4) (SameNamed-trans (SameNamed-adds a5) (SameNamed-trans (SameNamed-adds a6) (SameNamed-bind (GrowsBut-unbound begun) b))))))
 
+  pub serial_names : LeavesFree n0.cells n7.cells (λ name. name ≡ name_of n0.group Register number)
+  serial_names = record {
+    free = λ name other f. free_bind (GrowsBut-unbound begun) b name (free_adds a6 name (free_adds a5 name (free_adds a4 name (free_register a3 name other (free_adds a2 name (free_adds a1 name f))))));
+  }
+
   module _ (cut : Cut) (law : IsCut cut) (x : ℕ → ℤ) (v : Values) (r : IsRun cut n7.cells x v) where
     r6 : IsRun cut n6.cells x v
     r6 = (Extends-grown begun wide b).runs cut law x v r
@@ -188,15 +193,12 @@ module _ {n0 n1 n2 n3 n4 n5 n6 n7 : NetView} {begin table zero negated sum doubl
       counts = serial_adders;
       windows = serial_named.windows n0.group;
       tabled = serial_named.tables n0.group ∙ omega arith;
-      names = record {
-        free = λ name other f. free_bind (GrowsBut-unbound begun) b name (free_adds a6 name (free_adds a5 name (free_adds a4 name (free_register a3 name other (free_adds a2 name (free_adds a1 name f))))));
-      };
+      names = serial_names;
     };
     shallow = serial_shallow;
-    plain = own_plain;
+    register = record { cell = _; there = there; of_group = same2; named = refl; wide = refl; registered = (next, refl) };
     serial = record {
       within = slice_get_within n7.cells sum.place _ there;
-      wide = ap (λ (c : Cell). c.width) (cell_at-is n7.cells sum.place _ there);
       held = λ cut law x v r n j h kept.
           let old_run = serial_grows.extends.runs cut law x v r in
           summed period first (λ s. v s begin.place) (λ s. v s table.place) (λ s. v s sum.place) (cut false width) (steps cut law x v r) (bit.sets cut law x v old_run) (bit.clears cut law x v old_run) n j h kept;

@@ -2,3 +2,8 @@ pub mod Parts
 pub mod Copies
 pub mod Choices
 pub mod Serial
+pub mod Runs
+pub mod Totals
+pub mod Shown
+pub mod Around
+pub mod Facts

@@ -5,7 +5,7 @@ ghost use Rattle.net_graph.specs.declared.name.NameKind.TheVariants.{Register};
 ghost use Rattle.net_graph.specs.WellFormed.{IsFree};
 ghost use Rattle.net_graph.specs.Grow.{Extends};
 ghost use Rattle.pipeline_balance.specs.Gate.{IsTickOf, IsBitOf};
-ghost use Rattle.pipeline_balance.specs.Numbered.{name_of};
+ghost use Rattle.pipeline_balance.specs.Numbered.{LeavesFree, name_of};
 ghost use Rattle.distributed_table.specs.Serial.{AddsAccumulator};
 
 use mr_values::Memory;
@@ -13,7 +13,7 @@ use net_graph::{Name, NameKind, Net, Node};
 
 /// A register of this number that takes the negation of the table's value where the bit `begin` is set, and at each other tick twice its own
 /// value and the table's. After want of memory there may be more nodes.
-pub fn add_accumulator(
+pub(crate) fn add_accumulator(
     net: &mut Net,
     begin: Node,
     table: Node,
@@ -27,6 +27,7 @@ pub fn add_accumulator(
     requires has_table { table.place < length net.old.cells }
     requires free { IsFree net.old.cells (name_of net.old.group Register number) }
     ensures ok { IfOk result (λ sum. (period first : ℕ) → IsBitOf net.old.cells (IsTickOf period first) begin → AddsAccumulator net.old net.new period first table number width sum) }
+    ensures names { IfOk result (λ _. LeavesFree net.old.cells net.new.cells (λ name. name ≡ name_of net.old.group Register number)) }
     ensures extends { Extends net.old.cells net.new.cells }
     ensures group { net.new.group ≡ net.old.group }
 {

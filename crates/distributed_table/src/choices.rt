@@ -54,7 +54,7 @@ fn add_choices(
 
 /// The table of a run under this number: the sum of the taps whose bits in the address are set. After want of memory there may be more
 /// nodes.
-pub fn add_table(
+pub(crate) fn add_table(
     net: &mut Net,
     taps: &[i128],
     address: &[Node],

@@ -34,7 +34,7 @@ fn add_copy(net: &mut Net, load: Node, from: Node, width: u8) -> Result<Node, Me
 
 /// The highest bits of the copies of these nodes, each as wide as `width` says. A copy takes its node's value where the bit `load` is set,
 /// and is shifted up by one place at each other tick. After want of memory there may be more nodes.
-pub fn add_copies(
+pub(crate) fn add_copies(
     alloc: Global,
     net: &mut Net,
     load: Node,

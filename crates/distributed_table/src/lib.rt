@@ -1,12 +1,11 @@
-//! The parts of filters by distributed arithmetic: copies of a window that are shifted out bit by bit, the table of a run of taps, addressed by one bit
-//! of each of its values, and an accumulator that takes the bits from the highest. The crate owns these parts; it must know no stage. No stage is made
-//! of them yet.
+//! Filters by distributed arithmetic: runs of taps, each with a table that is addressed by one bit of each of its values, and an accumulator
+//! that takes the bits from the highest. The crate owns this form; it must know no other stage. The chain relies on it.
 #![tactic(auto)]
 
 mod accumulators;
+mod around;
 mod choices;
 mod copies;
-
-pub use accumulators::add_accumulator;
-pub use choices::add_table;
-pub use copies::add_copies;
+mod runs;
+mod shown;
+mod totals;

@@ -7,7 +7,7 @@ ghost use Rattle.filter_report.specs.Report.{register_line, register_lines};
 
 use crate::extremes::{extreme_at, put_extreme};
 use crate::report::put_number;
-use filter_text::ExtremeAt;
+use chain_build::RegisterExtreme;
 use std::alloc::AllocError;
 use verilog_tree::{Kind, Module, Signal};
 
@@ -25,7 +25,7 @@ fn name_of(design: &Module, name: usize) -> &[u8]
 fn put_register(
     text: &mut Vec<u8>,
     design: &Module,
-    extremes: &[Option<ExtremeAt>],
+    extremes: &[Option<RegisterExtreme>],
     signal: &Signal,
 ) -> Result<(), AllocError>
     ensures { OnOk result (text.new.items ≡ text.old.items ++ register_line (design_view design.now) (told_at extremes.now) signal.now) }
@@ -45,7 +45,7 @@ fn put_register(
 pub(crate) fn put_registers(
     text: &mut Vec<u8>,
     design: &Module,
-    extremes: &[Option<ExtremeAt>],
+    extremes: &[Option<RegisterExtreme>],
 ) -> Result<(), AllocError>
     ensures { OnOk result (text.new.items ≡ text.old.items ++ register_lines (design_view design.now) (told_at extremes.now) (design_view design.now).signals) }
 {

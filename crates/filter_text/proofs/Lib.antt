@@ -19,7 +19,6 @@ pub mod RegistersText
 pub mod CascadesText
 pub mod SumExtreme
 pub mod LeastText
-pub mod ChainRegisters
 pub mod TellExtremes
 pub mod ByNumber
 pub mod TellNumbers

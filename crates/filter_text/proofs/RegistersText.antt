@@ -32,7 +32,7 @@ use Rattle.chain_build.specs.Linear.{LinearRegister, linear, is_linear_group, is
 use Rattle.chain_build.specs.LinearNet as net_registers
 use Rattle.chain_build.specs.LinearNet.{IsRegisterIn, IsListed}
 use Rattle.filter_text.specs.Runs.{samples_in, IsRunFrom}
-use Rattle.filter_text.specs.Registers.{register_number, IsLinearRegister, IsNamedIn, HasLinearRegisters}
+use Rattle.filter_text.specs.Registers.{register_number, IsLinearRegister, IsNeverCut, AreNeverCut, IsNamedIn, HasLinearRegisters}
 use Rattle.filter_text.proofs.ChainShows.{has_samples, samples_fit}
 use Rattle.filter_text.proofs.CountedText.{few_groups}
 use Rattle.filter_text.proofs.NodeNames.{text_number, register_text}
@@ -101,9 +101,11 @@ module _ {width ticks : ℕ} {elements : List Element} {cells : List Cell} {out_
       named = text_is;
       is_register = register_kind wide narrow some net its.node.place its.register.cell its.register.there registered (written_name r.name) numbered d same;
       wide = register_width wide narrow some net its.node.place its.register.cell its.register.there registered (written_name r.name) numbered d same ∙ its.register.wide;
-      uncut = uncut_same;
       holds = sum_held;
     }
+
+    pub never_cut : IsNeverCut width d r
+    never_cut = record { whole = uncut_same }
 
   -- a list has a register of each name that is written so
   named_in : (registers : List LinearRegister) (name : Name) (text : List ℕ) → written_name name ≡ text → IsListed registers name → IsNamedIn registers text
@@ -119,3 +121,6 @@ module _ {width ticks : ℕ} {elements : List Element} {cells : List Cell} {out_
         named_in (linear width ticks elements) found.name (text_of d n) found.written
         (has.only found.place found.cell found.name found.next found.there found.named found.is_it (inr (found.no_control, ap (is_linear_number (groups elements)) found.of_group ∙ is_linear)));
   }
+
+  pub never_cut_text : net_registers.HasLinearRegisters width ticks elements cells → AreNeverCut elements width ticks d
+  never_cut_text has = record { each = λ i r at. never_cut r (has.each i r at) }

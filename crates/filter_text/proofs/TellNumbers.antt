@@ -22,7 +22,6 @@ use Rattle.chain_build.specs.Extremes.{HasExtremes, IsReached}
 use Rattle.chain_build.specs.Linear.{LinearRegister, linear}
 use Rattle.chain_build.specs.LinearNet as net_registers
 use Rattle.chain_build.specs.Told.{TellsRegister, TellsRegisters}
-use Rattle.filter_text.specs.declared.extremes.ExtremeAt.{ExtremeAt}
 use Rattle.filter_text.specs.Extremes.{pair_of, told_at, TellsByNumber, TellsEach}
 use Rattle.filter_text.specs.Registers.{register_number}
 use Rattle.filter_text.proofs.NodeNames.{name_there, text_number, register_text}
@@ -101,8 +100,8 @@ module _ {width ticks : ℕ} {elements : List Element} {cells : List Cell} {out_
     pub told_within : (j : ℕ) (t : RegisterExtreme) → slice_get told j ≡ Some t → t.register.place + 6 < length (written_module cells).names
     told_within j t at = let its = all.only j t at in within its.2.place its.0 its.2.there its.1 t its.3
 
-    module _ (d : Design) (same : IsSameButPlaces d (written_module cells)) (extremes : List (Option ExtremeAt)) (by_number : TellsByNumber told extremes) where
-      from_pair : (o : Option (Option ExtremeAt)) (tick : ℕ) (value : ℤ) → pair_of o ≡ Some (tick, value) → (e : ExtremeAt) × (o ≡ Some (Some e)) × (e.tick ≡ tick) × (e.value ≡ value)
+    module _ (d : Design) (same : IsSameButPlaces d (written_module cells)) (extremes : List (Option RegisterExtreme)) (by_number : TellsByNumber told extremes) where
+      from_pair : (o : Option (Option RegisterExtreme)) (tick : ℕ) (value : ℤ) → pair_of o ≡ Some (tick, value) → (e : RegisterExtreme) × (o ≡ Some (Some e)) × (e.tick ≡ tick) × (e.value ≡ value)
       from_pair None tick value is = absurd (cc)
       from_pair (Some None) tick value is = absurd (cc)
       from_pair (Some (Some e)) tick value is =
@@ -121,15 +120,15 @@ module _ {width ticks : ℕ} {elements : List Element} {cells : List Cell} {out_
         only = λ name tick value is.
             let found = from_pair (slice_get extremes name) tick value is in
             let one = by_number.only name found.0 found.1 in
-            let its = all.only one.j one.t one.there in
+            let its = all.only one.j found.0 one.there in
             record {
               place = its.2.place;
               r = its.0;
               there = its.2.there;
               sum = its.1;
               needed = its.2.needed;
-              own = own_number_is its.2.place its.0 its.2.there its.1 one.t its.3 d same ∙ one.own;
-              reached = reached its.0 its.1 one.t.tick tick one.t.value value (one.same_tick ∙ found.2) (one.same_value ∙ found.3) its.3.reached;
+              own = own_number_is its.2.place its.0 its.2.there its.1 found.0 its.3 d same ∙ one.own;
+              reached = reached its.0 its.1 found.0.tick tick found.0.value value found.2 found.3 its.3.reached;
             };
       }
         where

@@ -8,7 +8,6 @@ use Rattle.verilog_tree.specs.Tree.{Design}
 use Rattle.chain_build.specs.declared.extremes.RegisterExtreme.{RegisterExtreme}
 use Rattle.chain_build.specs.Extremes.{IsReached}
 use Rattle.chain_build.specs.Linear.{LinearRegister, linear}
-use Rattle.filter_text.specs.declared.extremes.ExtremeAt.{ExtremeAt}
 use Rattle.filter_text.specs.Registers.{register_number, IsReachedIn}
 
 -- a list has a register whose name has this text, and for which one bit is too few
@@ -28,28 +27,25 @@ pub record TellsExtremes (elements : List Element) (width ticks : ℕ) (d : Desi
 
 -- ---- in a list
 
-abbrev pub pair_of : Option (Option ExtremeAt) → Option (ℕ × ℤ)
+abbrev pub pair_of : Option (Option RegisterExtreme) → Option (ℕ × ℤ)
 pair_of None = None
 pair_of (Some None) = None
 pair_of (Some (Some e)) = Some (e.tick, e.value)
 
 -- what a list tells at a number; past its end nothing
-abbrev pub told_at : List (Option ExtremeAt) → ℕ → Option (ℕ × ℤ)
+abbrev pub told_at : List (Option RegisterExtreme) → ℕ → Option (ℕ × ℤ)
 told_at extremes name = pair_of (slice_get extremes name)
 
 -- what stands at a number is told of a register whose name has this number: it is six past the place of a node behind the first, the input
-pub record IsToldOf (told : List RegisterExtreme) (number : ℕ) (extreme : ExtremeAt) : Type 0 where
+pub record IsToldOf (told : List RegisterExtreme) (number : ℕ) (extreme : RegisterExtreme) : Type 0 where
   pub j : ℕ
-  pub t : RegisterExtreme
-  pub there : slice_get told j ≡ Some t
-  pub own : t.register.place + 6 ≡ number
-  pub same_tick : t.tick ≡ extreme.tick
-  pub same_value : t.value ≡ extreme.value
+  pub there : slice_get told j ≡ Some extreme
+  pub own : extreme.register.place + 6 ≡ number
 
 -- a list has what is told of each register, at the number of its name, and nothing else
-pub record TellsByNumber (told : List RegisterExtreme) (extremes : List (Option ExtremeAt)) : Type 0 where
-  pub each : (j : ℕ) (t : RegisterExtreme) → slice_get told j ≡ Some t → (e : ExtremeAt) × (slice_get extremes (t.register.place + 6) ≡ Some (Some e))
-  pub only : (number : ℕ) (e : ExtremeAt) → slice_get extremes number ≡ Some (Some e) → IsToldOf told number e
+pub record TellsByNumber (told : List RegisterExtreme) (extremes : List (Option RegisterExtreme)) : Type 0 where
+  pub each : (j : ℕ) (t : RegisterExtreme) → slice_get told j ≡ Some t → (e : RegisterExtreme) × (slice_get extremes (t.register.place + 6) ≡ Some (Some e))
+  pub only : (number : ℕ) (e : RegisterExtreme) → slice_get extremes number ≡ Some (Some e) → IsToldOf told number e
 
 -- ---- register by register
 

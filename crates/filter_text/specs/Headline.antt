@@ -17,7 +17,7 @@ use Rattle.verilog_tree.specs.Uncut.{Numbers, IsUncutRun, number_at}
 use Rattle.verilog_text.specs.Reading.{Reads}
 use Rattle.net_module.specs.Steps.{ticks_in, pair_of}
 use Rattle.filter_text.specs.Runs.{samples_in, IsRunFrom}
-use Rattle.filter_text.specs.Registers.{HasLinearRegisters, AreLeastRegisters}
+use Rattle.filter_text.specs.Registers.{HasLinearRegisters, AreNeverCut, AreLeastRegisters}
 use Rattle.filter_text.specs.Cascades.{in_module}
 use Rattle.plan_check.specs.StageCosts.{cost}
 use Rattle.chain_build.specs.Alike.{HoldsOfEachCascade}
@@ -132,6 +132,7 @@ pub record IsModuleOf (elements : List Element) (width ticks latency period : �
   pub least_output : ArePlainGroups (groups elements) → IsLeastOutput elements width ((shapes_of design).width (ports_of design).out_data)
   pub uncut : ArePlainGroups (groups elements) → KeepsWhole elements width ticks latency period design
   pub registers : HasLinearRegisters elements width ticks design
+  pub never_cut : AreNeverCut elements width ticks design
   pub least : AreLeastRegisters elements width ticks design
   pub cascades : HoldsOfEachCascade (in_module design) width ticks elements
   pub costs : AreCounted 1 (groups elements) design

@@ -22,20 +22,23 @@ use Rattle.filter_text.specs.Runs.{IsRunFrom, samples_in}
 abbrev pub register_number : Design → LinearRegister → ℕ
 register_number d r = number_of d (written_name r.name)
 
--- The module has this register. In each cycle after the last reset cycle it has its whole number of every uncut run that begins at that
--- reset cycle; and with so many ticks before the cycle as the sum that needs its width asks for, it has that sum over the samples since then.
+-- The module has this register. With so many ticks before a cycle after the last reset cycle as the sum that needs its width asks for, it has
+-- that sum over the samples since then.
 pub record IsLinearRegister (width ticks : ℕ) (d : Design) (r : LinearRegister) : Type 0 where
   pub named : text_of d (register_number d r) ≡ written_name r.name
   pub is_register : kind_of d (register_number d r) ≡ Some Reg
   pub wide : (shapes_of d).width (register_number d r) ≡ r.width
-  pub uncut : (content : Values) (before after : List Cycle) (reset : Cycle) (settled : List Values) → IsRunFrom d width content before after reset settled
-      → (begins : Numbers) (uncut : List Numbers) → IsUncutRun d begins (drop (length before) settled) uncut
-      → (j : ℕ) (now : Values) (whole : Numbers) → slice_get settled (length before + 1 + j) ≡ Some now → slice_get uncut (suc j) ≡ Some whole
-      → number_at d now (register_number d r) ≡ whole (register_number d r)
   pub holds : (s : HeldSum) → r.needed ≡ Some s
       → (content : Values) (before after : List Cycle) (reset : Cycle) (settled : List Values) → IsRunFrom d width content before after reset settled
       → (k j : ℕ) (now : Values) → InClass s.class k → slice_get settled (length before + 1 + j) ≡ Some now → ticks_in (take j after) ≡ r.stream.offset + k * r.stream.period + s.lag
       → number_at d now (register_number d r) ≡ filter s.form (chain r.stream.elements (samples (samples_in width ticks after))) (pos k)
+
+-- In each cycle after the last reset cycle the register has its whole number of every uncut run that begins at that reset cycle.
+pub record IsNeverCut (width : ℕ) (d : Design) (r : LinearRegister) : Type 0 where
+  pub whole : (content : Values) (before after : List Cycle) (reset : Cycle) (settled : List Values) → IsRunFrom d width content before after reset settled
+      → (begins : Numbers) (uncut : List Numbers) → IsUncutRun d begins (drop (length before) settled) uncut
+      → (j : ℕ) (now : Values) (whole : Numbers) → slice_get settled (length before + 1 + j) ≡ Some now → slice_get uncut (suc j) ≡ Some whole
+      → number_at d now (register_number d r) ≡ whole (register_number d r)
 
 -- a list has a register whose name has this text
 pub record IsNamedIn (registers : List LinearRegister) (text : List ℕ) : Type 0 where
@@ -49,6 +52,10 @@ pub record HasLinearRegisters (elements : List Element) (width ticks : ℕ) (d :
   pub each : (i : ℕ) (r : LinearRegister) → slice_get (linear width ticks elements) i ≡ Some r → IsLinearRegister width ticks d r
   pub only : (name group : ℕ) → kind_of d name ≡ Some Reg → is_linear_number (groups elements) group ≡ true → is_in_group group (text_of d name) ≡ true
       → IsNamedIn (linear width ticks elements) (text_of d name)
+
+-- none of the plan's linear registers is ever cut
+pub record AreNeverCut (elements : List Element) (width ticks : ℕ) (d : Design) : Type 0 where
+  pub each : (i : ℕ) (r : LinearRegister) → slice_get (linear width ticks elements) i ≡ Some r → IsNeverCut width d r
 
 -- ---- inputs that need a width
 
@@ -77,8 +84,3 @@ IsLeastRegister width ticks d r = (r.width ≡ 1) ⊎ ((tick : ℕ) × (value : 
 -- each linear register of the plan has the least width
 pub record AreLeastRegisters (elements : List Element) (width ticks : ℕ) (d : Design) : Type 0 where
   pub each : (i : ℕ) (r : LinearRegister) → slice_get (linear width ticks elements) i ≡ Some r → IsLeastRegister width ticks d r
-
--- the module has the linear registers of the plan, each of the least width
-pub record HasLeastRegisters (elements : List Element) (width ticks : ℕ) (d : Design) : Type 0 where
-  pub registers : HasLinearRegisters elements width ticks d
-  pub least : AreLeastRegisters elements width ticks d

@@ -7,9 +7,9 @@ ghost use Rattle.verilog_tree.specs.View.{design_view};
 ghost use Rattle.verilog_text.specs.Order.{IsInOrder};
 ghost use Rattle.filter_text.specs.Written.{IsChainModule, IsTextWritten};
 
-use crate::extremes::{ExtremeAt, by_number};
+use crate::extremes::by_number;
 use crate::small::nets_are_small;
-use chain_build::{GroupCost, build};
+use chain_build::{GroupCost, RegisterExtreme, build};
 use formed_module::FormedModule;
 use mr_values::{Memory, Plan};
 use net_module::module_of;
@@ -24,7 +24,7 @@ pub struct ChainModule {
     pub design: FormedModule,
     pub output: u8,
     pub costs: Vec<GroupCost>,
-    pub extremes: Vec<Option<ExtremeAt>>,
+    pub extremes: Vec<Option<RegisterExtreme>>,
 }
 
 /// The module of an accepted plan, of which these are the facts: what it shows stands at the ticks latency + n * period. Fails only

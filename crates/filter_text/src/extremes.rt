@@ -7,39 +7,22 @@ use chain_build::RegisterExtreme;
 use mr_values::Memory;
 use std::alloc::Global;
 
-/// A value of a register that needs all of its bits, and a tick at which some samples drive it there.
-#[derive(Clone, Copy, Debug)]
-pub struct ExtremeAt {
-    pub tick: u128,
-    pub value: i128,
-}
-
 // The name of the second node has the number 7: those of the module and its ports come first, and the input, which is the first node,
 // has the name of a port.
 const BEFORE: usize = 6;
-
-// What is told of a register, without its place.
-fn value_of(told: &RegisterExtreme) -> ExtremeAt
-    ensures { result ≡ record { tick = told.now.tick; value = told.now.value } }
-{
-    ExtremeAt {
-        tick: told.tick,
-        value: told.value,
-    }
-}
 
 /// What is told of registers, at the numbers of their names, of which there are so many.
 pub(crate) fn by_number(
     alloc: Global,
     names: usize,
     told: &[RegisterExtreme],
-) -> Result<Vec<Option<ExtremeAt>>, Memory>
+) -> Result<Vec<Option<RegisterExtreme>>, Memory>
     requires { (j : ℕ) (t : RegisterExtreme) → slice_get told.now j ≡ Some t → t.register.place + 6 < names }
     ensures { IfOk result (λ extremes. TellsByNumber told.now extremes.items) }
 {
     let mut extremes = Vec::from_elem(alloc, None, names)?;
     for one in told {
-        extremes[one.register.place + BEFORE] = Some(value_of(one));
+        extremes[one.register.place + BEFORE] = Some(*one);
     }
     Ok(extremes)
 }

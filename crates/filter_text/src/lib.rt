@@ -6,4 +6,3 @@ mod extremes;
 mod small;
 
 pub use chain::{ChainModule, chain_module, chain_text};
-pub use extremes::ExtremeAt;

@@ -14,11 +14,11 @@ use Rattle.command_files.specs.declared.fault.CommandFault.TheVariants.{HostFaul
 use Rattle.command_files.specs.PlanFile.{IsAcceptedFile, IsRefusedPlan, AreReadToEnd}
 use Rattle.command_files.specs.OutFile.{IsHaltedAt, IsEnded}
 
--- The bytes are a plan file of a rewritten plan: the width and the ticks are the same, the noble identities lead to its elements,
+-- The bytes are a plan file of this version of a rewritten plan: the width and the ticks are the same, the noble identities lead to its elements,
 -- none applies to them, and they have the same value at every index of every sequence.
-pub record IsRewriting (plan : Plan) (bytes : List ℕ) : Type 0 where
+pub record IsRewriting (version : ℕ) (plan : Plan) (bytes : List ℕ) : Type 0 where
   pub rewritten : Plan
-  pub says : Says bytes (Ok (record { plan = rewritten; files = [] }))
+  pub says : Says bytes (Ok (record { version = version; plan = rewritten; files = [] }))
   pub width : rewritten.width ≡ plan.width
   pub ticks : rewritten.ticks ≡ plan.ticks
   pub turns : List Applied
@@ -26,11 +26,11 @@ pub record IsRewriting (plan : Plan) (bytes : List ℕ) : Type 0 where
   pub ended : IsSettled rewritten.elements
   pub value : (x : Sequence) → chain rewritten.elements x ≡ chain plan.elements x
 
--- what OUT is to hold
+-- what OUT is to hold: a plan file of the version that PLAN has
 pub record IsOutput (plan : List ℕ) (files : Files) (bytes : List ℕ) : Type 0 where
   pub meaning : Plan
   pub accepted : IsAcceptedFile plan files meaning
-  pub rewriting : IsRewriting meaning bytes
+  pub rewriting : IsRewriting accepted.says.text.version meaning bytes
 
 -- the command was done: PLAN and its tap files were read to their end and are accepted, OUT says the rewritten plan, and no other file has
 -- changed

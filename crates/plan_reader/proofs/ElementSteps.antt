@@ -25,26 +25,26 @@ behind-joined elements files number read (Ok rest) = rw (append_assoc elements (
 behind-joined elements files number read (Err fault) = refl
 
 -- one more element
-pub element-read : (elements elements' : List Element) (files files' : List TapFile) (i : ℕ) (values : List Value) (d : Value) (read : ReadElement) (all : Result ReadElements PlanReadFault) → i < length values
-    → element_value (i + 1) (as_table (view (get_or values i d))) ≡ Ok read
-    → behind elements files (elements_from (i + 1) (items_view (drop i values))) ≡ all
+pub element-read : (elements elements' : List Element) (files files' : List TapFile) (version i : ℕ) (values : List Value) (d : Value) (read : ReadElement) (all : Result ReadElements PlanReadFault) → i < length values
+    → element_value version (i + 1) (as_table (view (get_or values i d))) ≡ Ok read
+    → behind elements files (elements_from version (i + 1) (items_view (drop i values))) ≡ all
     → elements' ≡ elements ++ read.element ∷ [] → files' ≡ files ++ file_list (i + 1) read.file
-    → behind elements' files' (elements_from (i + 1 + 1) (items_view (drop (i + 1) values))) ≡ all
-element-read elements elements' files files' i values d read all h is whole es fs =
-    ap (λ (n : ℕ). behind elements' files' (elements_from n (items_view (drop (i + 1) values)))) (omega arith)
-    ∙ ap (λ (xs : List Element). behind xs files' (elements_from (suc (i + 1)) (items_view (drop (i + 1) values)))) es
-    ∙ ap (λ (ys : List TapFile). behind (elements ++ read.element ∷ []) ys (elements_from (suc (i + 1)) (items_view (drop (i + 1) values)))) fs
-    ∙ sym (behind-joined elements files (i + 1) read (elements_from (suc (i + 1)) (items_view (drop (i + 1) values))))
-    ∙ ap (λ (first : Result ReadElement PlanReadFault). behind elements files (joined (i + 1) first (elements_from (suc (i + 1)) (items_view (drop (i + 1) values))))) (sym is)
-    ∙ ap (λ (items : Items). behind elements files (elements_from (i + 1) items)) (sym (items_view-drop values i d h))
+    → behind elements' files' (elements_from version (i + 1 + 1) (items_view (drop (i + 1) values))) ≡ all
+element-read elements elements' files files' version i values d read all h is whole es fs =
+    ap (λ (n : ℕ). behind elements' files' (elements_from version n (items_view (drop (i + 1) values)))) (omega arith)
+    ∙ ap (λ (xs : List Element). behind xs files' (elements_from version (suc (i + 1)) (items_view (drop (i + 1) values)))) es
+    ∙ ap (λ (ys : List TapFile). behind (elements ++ read.element ∷ []) ys (elements_from version (suc (i + 1)) (items_view (drop (i + 1) values)))) fs
+    ∙ sym (behind-joined elements files (i + 1) read (elements_from version (suc (i + 1)) (items_view (drop (i + 1) values))))
+    ∙ ap (λ (first : Result ReadElement PlanReadFault). behind elements files (joined (i + 1) first (elements_from version (suc (i + 1)) (items_view (drop (i + 1) values))))) (sym is)
+    ∙ ap (λ (items : Items). behind elements files (elements_from version (i + 1) items)) (sym (items_view-drop values i d h))
     ∙ whole
 
 -- the first wrong element
-pub element-refused : (elements : List Element) (files : List TapFile) (i : ℕ) (values : List Value) (d : Value) (fault : PlanReadFault) (all : Result ReadElements PlanReadFault) → i < length values
-    → element_value (i + 1) (as_table (view (get_or values i d))) ≡ Err fault
-    → behind elements files (elements_from (i + 1) (items_view (drop i values))) ≡ all
+pub element-refused : (elements : List Element) (files : List TapFile) (version i : ℕ) (values : List Value) (d : Value) (fault : PlanReadFault) (all : Result ReadElements PlanReadFault) → i < length values
+    → element_value version (i + 1) (as_table (view (get_or values i d))) ≡ Err fault
+    → behind elements files (elements_from version (i + 1) (items_view (drop i values))) ≡ all
     → all ≡ Err fault
-element-refused elements files i values d fault all h is whole =
+element-refused elements files version i values d fault all h is whole =
     sym whole
-    ∙ ap (λ (items : Items). behind elements files (elements_from (i + 1) items)) (items_view-drop values i d h)
-    ∙ ap (λ (first : Result ReadElement PlanReadFault). behind elements files (joined (i + 1) first (elements_from (suc (i + 1)) (items_view (drop (i + 1) values))))) is
+    ∙ ap (λ (items : Items). behind elements files (elements_from version (i + 1) items)) (items_view-drop values i d h)
+    ∙ ap (λ (first : Result ReadElement PlanReadFault). behind elements files (joined (i + 1) first (elements_from version (suc (i + 1)) (items_view (drop (i + 1) values))))) is

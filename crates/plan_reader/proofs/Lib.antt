@@ -4,5 +4,5 @@ mod PrintSteps
 mod Refusals
 mod TapSteps
 mod TappedSteps
-pub mod FirstSteps
+pub mod VersionSteps
 pub mod OneAnswer

@@ -1,5 +1,5 @@
 -- A printed plan reads as the plan.
-use Rattle.std.proofs.Common.{◌≡◌, ◌∙◌, ℕ, suc, ◌+◌, ◌<◌, ◌≤◌, true, List, [], ◌∷◌, ◌++◌, length, take, get_or, ℤ, Some, None, option_map, Result, Ok, Err, String, Global, string_bytes, Ordering, Less, Equal, Greater, refl, sym, ap, subst, arith}
+use Rattle.std.proofs.Common.{◌≡◌, ◌∙◌, ℕ, suc, ◌+◌, ◌<◌, ◌≤◌, true, List, [], ◌∷◌, ◌++◌, length, take, get_or, ℤ, pos, ◌⊎◌, inl, inr, Some, None, option_map, Result, Ok, Err, String, Global, string_bytes, Ordering, Less, Equal, Greater, refl, sym, ap, subst, arith}
 use Rattle.std.specs.Prelude.{IsUtf8, IfOk, Vec}
 use Rattle.mr_values.specs.declared.memory.Memory.{Memory}
 use Rattle.std.specs.Ordering.{match_ordering}
@@ -16,9 +16,10 @@ use Rattle.mr_values.specs.declared.plan.Element.TheVariants.{Up, Down, Filter, 
 use Rattle.mr_values.specs.declared.plan.Form.TheVariants.{Parallel, Symmetric, HalfBand, Folded, Distributed}
 use Rattle.mr_values.specs.declared.plan.Mode.TheVariants.{HalfUp, HalfEven, Floor}
 use Rattle.mr_values.specs.declared.plan.Plan.{Plan}
-use Rattle.mr_values.specs.Value.{IsFirst, AreFirst}
+use Rattle.mr_values.specs.Value.{IsFirst}
 use Rattle.plan_reader.specs.Fields.{are_numbers, are_tables, numbers_of}
-use Rattle.plan_reader.specs.Documents.{element_from, elements_from, plan_of, Says}
+use Rattle.plan_reader.specs.Documents.{element_from, elements_from, version_of, plan_of, Says}
+use Rattle.plan_reader.specs.Versions.{IsVersioned}
 use Rattle.plan_reader.specs.Printed.{put_member, number_items, element_members, element_items, plan_members}
 
 -- ---- a table in memory
@@ -43,31 +44,45 @@ numbers_of-items : (taps : List ℤ) → numbers_of (number_items taps) ≡ taps
 numbers_of-items [] = refl
 numbers_of-items (c ∷ cs) = ap (λ (xs : List ℤ). c ∷ xs) (numbers_of-items cs)
 
-element-again : (n : ℕ) (e : Element) → IsFirst e → element_from n (element_members e) ≡ Ok (record { element = e; file = None })
-element-again n (Up factor) h = refl
-element-again n (Down factor) h = refl
-element-again n (Filter taps Parallel) h = rw (are_numbers-items taps, numbers_of-items taps) refl
-element-again n (Filter taps Symmetric) h = rw (are_numbers-items taps, numbers_of-items taps) refl
-element-again n (Filter taps HalfBand) h = rw (are_numbers-items taps, numbers_of-items taps) refl
-element-again n (Filter taps (Folded slots)) h = rw (are_numbers-items taps, numbers_of-items taps) refl
-element-again n (Filter taps (Distributed group)) h = rw (are_numbers-items taps, numbers_of-items taps) refl
-element-again n (CicDown factor stages delay) h = refl
-element-again n (CicUp factor stages delay) h = refl
-element-again n (Round shift HalfUp) h = refl
-element-again n (Round shift HalfEven) h = absurd h
-element-again n (Round shift Floor) h = refl
-element-again n (Clip bits) h = absurd h
+element-again : (version n : ℕ) (e : Element) → (version ≡ 2) ⊎ IsFirst e → element_from version n (element_members e) ≡ Ok (record { element = e; file = None })
+element-again version n (Up factor) h = refl
+element-again version n (Down factor) h = refl
+element-again version n (Filter taps Parallel) h = rw (are_numbers-items taps, numbers_of-items taps) refl
+element-again version n (Filter taps Symmetric) h = rw (are_numbers-items taps, numbers_of-items taps) refl
+element-again version n (Filter taps HalfBand) h = rw (are_numbers-items taps, numbers_of-items taps) refl
+element-again version n (Filter taps (Folded slots)) h = rw (are_numbers-items taps, numbers_of-items taps) refl
+element-again version n (Filter taps (Distributed group)) h = rw (are_numbers-items taps, numbers_of-items taps) refl
+element-again version n (CicDown factor stages delay) h = refl
+element-again version n (CicUp factor stages delay) h = refl
+element-again version n (Round shift HalfUp) h = refl
+element-again version n (Round shift HalfEven) (inl second) = rw second refl
+element-again version n (Round shift HalfEven) (inr first) = absurd first
+element-again version n (Round shift Floor) h = refl
+element-again version n (Clip bits) (inl second) = rw second refl
+element-again version n (Clip bits) (inr first) = absurd first
 
-elements-again : (n : ℕ) (es : List Element) → AreFirst es → elements_from n (element_items es) ≡ Ok (record { elements = es; files = [] })
-elements-again n [] h = refl
-elements-again n (e ∷ es) h = rw (element-again n e h.0, elements-again (suc n) es h.1) refl
+head_versioned : (version : ℕ) (e : Element) (es : List Element) → IsVersioned version (e ∷ es) → (version ≡ 2) ⊎ IsFirst e
+head_versioned version e es (inl second) = inl second
+head_versioned version e es (inr first) = inr first.1.0
+
+tail_versioned : (version : ℕ) (e : Element) (es : List Element) → IsVersioned version (e ∷ es) → IsVersioned version es
+tail_versioned version e es (inl second) = inl second
+tail_versioned version e es (inr first) = inr (first.0, first.1.1)
+
+elements-again : (version n : ℕ) (es : List Element) → IsVersioned version es → elements_from version n (element_items es) ≡ Ok (record { elements = es; files = [] })
+elements-again version n [] h = refl
+elements-again version n (e ∷ es) h = rw (element-again version n e (head_versioned version e es h), elements-again version (suc n) es (tail_versioned version e es h)) refl
 
 are_tables-items : (es : List Element) → are_tables (element_items es) ≡ true
 are_tables-items [] = refl
 are_tables-items (e ∷ es) = are_tables-items es
 
-plan-again : (plan : Plan) → AreFirst plan.elements → plan_of (plan_members plan) ≡ Ok (record { plan = plan; files = [] })
-plan-again plan h = rw (are_tables-items plan.elements, elements-again 1 plan.elements h) refl
+version-again : (version : ℕ) (es : List Element) → IsVersioned version es → version_of (pos version) ≡ Ok version
+version-again version es (inl second) = rw second refl
+version-again version es (inr first) = rw first.0 refl
+
+plan-again : (version : ℕ) (plan : Plan) → IsVersioned version plan.elements → plan_of (plan_members version plan) ≡ Ok (record { version = version; plan = plan; files = [] })
+plan-again version plan h = rw (version-again version plan.elements h, are_tables-items plan.elements, elements-again version 1 plan.elements h) refl
 
 -- ---- how deep it is
 
@@ -92,12 +107,13 @@ elements-depth : (es : List Element) → items_depth (element_items es) ≤ 2
 elements-depth [] = omega arith
 elements-depth (e ∷ es) = omega (arith, element-depth e, elements-depth es)
 
-pub plan-depth : (plan : Plan) → members_depth (plan_members plan) ≤ 80
-plan-depth plan = omega (arith, elements-depth plan.elements)
+pub plan-depth : (version : ℕ) (plan : Plan) → members_depth (plan_members version plan) ≤ 80
+plan-depth version plan = omega (arith, elements-depth plan.elements)
 
 -- what is printed says the plan
-pub printed : (plan : Plan) (bytes : List ℕ) (ms : Members) → AreFirst plan.elements → IsUtf8 bytes → ms ≡ plan_members plan → parse_document bytes ≡ Some ms → Says bytes (Ok (record { plan = plan; files = [] }))
-printed plan bytes ms first utf8 is parsed = record { text = utf8; says = ap (option_map plan_of) (parsed ∙ ap Some is) ∙ ap Some (plan-again plan first) }
+pub printed : (version : ℕ) (plan : Plan) (bytes : List ℕ) (ms : Members) → IsVersioned version plan.elements → IsUtf8 bytes → ms ≡ plan_members version plan → parse_document bytes ≡ Some ms
+    → Says bytes (Ok (record { version = version; plan = plan; files = [] }))
+printed version plan bytes ms versioned utf8 is parsed = record { text = utf8; says = ap (option_map plan_of) (parsed ∙ ap Some is) ∙ ap Some (plan-again version plan versioned) }
 
 -- ---- arrays
 
@@ -130,10 +146,10 @@ elements-pushed values values' elements i d e value h so_far seen is pushed =
     ∙ ap element_items (sym (take_more elements i d h))
 
 -- what is handed out says the plan
-pub printed-copied : (plan : Plan) (result : Result (Vec ℕ Global) Memory) (shown bytes : List ℕ) (ms : Members) → AreFirst plan.elements → IfOk result (λ v. v.items ≡ shown) → shown ≡ bytes → IsUtf8 shown → ms ≡ plan_members plan
-    → (members_depth ms ≤ 80 → parse_document bytes ≡ Some ms) → IfOk result (λ v. Says v.items (Ok (record { plan = plan; files = [] })))
-printed-copied plan (Err memory) shown bytes ms first copy same utf8 is reads = tt
-printed-copied plan (Ok v) shown bytes ms first copy same utf8 is reads =
-    let shallow : members_depth ms ≤ 80 = subst (λ (m : Members). members_depth m ≤ 80) (sym is) (plan-depth plan) in
+pub printed-copied : (version : ℕ) (plan : Plan) (result : Result (Vec ℕ Global) Memory) (shown bytes : List ℕ) (ms : Members) → IsVersioned version plan.elements → IfOk result (λ v. v.items ≡ shown) → shown ≡ bytes → IsUtf8 shown
+    → ms ≡ plan_members version plan → (members_depth ms ≤ 80 → parse_document bytes ≡ Some ms) → IfOk result (λ v. Says v.items (Ok (record { version = version; plan = plan; files = [] })))
+printed-copied version plan (Err memory) shown bytes ms versioned copy same utf8 is reads = tt
+printed-copied version plan (Ok v) shown bytes ms versioned copy same utf8 is reads =
+    let shallow : members_depth ms ≤ 80 = subst (λ (m : Members). members_depth m ≤ 80) (sym is) (plan-depth version plan) in
     let parsed : parse_document shown ≡ Some ms = ap parse_document same ∙ reads shallow in
-    subst (λ (text : List ℕ). Says text (Ok (record { plan = plan; files = [] }))) (sym copy) (printed plan shown ms first utf8 is parsed)
+    subst (λ (text : List ℕ). Says text (Ok (record { version = version; plan = plan; files = [] }))) (sym copy) (printed version plan shown ms versioned utf8 is parsed)

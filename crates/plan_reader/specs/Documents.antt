@@ -36,13 +36,13 @@ no_other number keys ms = no_key number (first_other keys ms)
 abbrev pub element_with : ℕ → Members → Shape → Result ReadElement PlanReadFault
 element_with number ms shape = and_then (no_other number (keys_of shape) ms) (λ _. Ok (record { element = element_of shape ms; file = file_of shape ms }))
 
--- the element of this number, or its first wrong field: its kind, its keys in their order, and then other keys
-abbrev pub element_from : ℕ → Members → Result ReadElement PlanReadFault
-element_from number ms = and_then (in_element number (shape_of ms)) (λ shape. element_with number ms shape)
+-- the element of this number in a plan of this version, or its first wrong field: its kind, its keys in their order, and then other keys
+abbrev pub element_from : ℕ → ℕ → Members → Result ReadElement PlanReadFault
+element_from version number ms = and_then (in_element number (shape_of version ms)) (λ shape. element_with number ms shape)
 
-abbrev pub element_value : ℕ → Option Members → Result ReadElement PlanReadFault
-element_value number None = Err (Field 0 (key_text key.Element) WrongType)
-element_value number (Some ms) = element_from number ms
+abbrev pub element_value : ℕ → ℕ → Option Members → Result ReadElement PlanReadFault
+element_value version number None = Err (Field 0 (key_text key.Element) WrongType)
+element_value version number (Some ms) = element_from version number ms
 
 -- the elements of a plan and their tap files
 pub record ReadElements : Type 0 where
@@ -62,9 +62,9 @@ joined number (Ok first) rest = with_first number first rest
 joined number (Err fault) rest = Err fault
 
 -- the elements of an array of tables, the first of which has this number
-abbrev pub elements_from : ℕ → Items → Result ReadElements PlanReadFault
-elements_from number no_items = Ok (record { elements = []; files = [] })
-elements_from number (item value values) = joined number (element_value number (as_table value)) (elements_from (suc number) values)
+abbrev pub elements_from : ℕ → ℕ → Items → Result ReadElements PlanReadFault
+elements_from version number no_items = Ok (record { elements = []; files = [] })
+elements_from version number (item value values) = joined number (element_value version number (as_table value)) (elements_from version (suc number) values)
 
 -- ---- the plan itself
 
@@ -75,29 +75,30 @@ tables_only values = if are_tables values then Ok tt else Err (record { key = ke
 abbrev pub tables_at : Members → Result (Unit {0}) FieldFault
 tables_at ms = and_then (at_key key.Element (required as_array (value_at key.Element ms))) (λ values. tables_only values)
 
-abbrev pub sizes_of : Members → Result Top FieldFault
-sizes_of ms = and_then (number_at key.Width ms) (λ width. and_then (number_or key.Ticks (pos 1) ms) (λ ticks. and_then (tables_at ms) (λ _. Ok (record { width = width; ticks = ticks }))))
+abbrev pub sizes_of : ℕ → Members → Result Top FieldFault
+sizes_of version ms = and_then (number_at key.Width ms) (λ width. and_then (number_or key.Ticks (pos 1) ms) (λ ticks. and_then (tables_at ms) (λ _. Ok (record { version = version; width = width; ticks = ticks }))))
 
-abbrev pub version_one : ℤ → Result (Unit {0}) PlanReadFault
-version_one version = if int_eq version (pos 1) then Ok tt else Err (Version version)
+-- one of the versions that are read
+abbrev pub version_of : ℤ → Result ℕ PlanReadFault
+version_of found = if int_eq found (pos 1) then Ok 1 else if int_eq found (pos 2) then Ok 2 else Err (Version found)
 
 abbrev pub top_keys : List Key
 top_keys = key.Version ∷ key.Width ∷ key.Ticks ∷ key.Element ∷ []
 
--- the numbers of the plan, or its first wrong field: `version`, `width`, `ticks`, `element`, and then other keys
+-- the version and the numbers of the plan, or its first wrong field: `version`, `width`, `ticks`, `element`, and then other keys
 abbrev pub top_of : Members → Result Top PlanReadFault
 top_of ms =
-    and_then (in_element 0 (number_at key.Version ms)) (λ version.
-    and_then (version_one version) (λ _.
-    and_then (in_element 0 (sizes_of ms)) (λ top.
+    and_then (in_element 0 (number_at key.Version ms)) (λ found.
+    and_then (version_of found) (λ version.
+    and_then (in_element 0 (sizes_of version ms)) (λ top.
     and_then (no_other 0 top_keys ms) (λ _. Ok top))))
 
 abbrev pub plan_with : Top → ReadElements → PlanText
-plan_with top read = record { plan = record { width = top.width; ticks = top.ticks; elements = read.elements }; files = read.files }
+plan_with top read = record { version = top.version; plan = record { width = top.width; ticks = top.ticks; elements = read.elements }; files = read.files }
 
 -- the plan that a document says, or its first wrong field: the plan's own fields come before those of the elements
 abbrev pub plan_of : Members → Result PlanText PlanReadFault
-plan_of ms = and_then (top_of ms) (λ top. and_then (elements_from 1 (items_at key.Element ms)) (λ read. Ok (plan_with top read)))
+plan_of ms = and_then (top_of ms) (λ top. and_then (elements_from top.version 1 (items_at key.Element ms)) (λ read. Ok (plan_with top read)))
 
 -- ---- files
 

@@ -5,5 +5,6 @@ pub mod TapFields
 pub mod Magnitudes
 pub mod Answers
 pub mod Printed
+pub mod Versions
 pub mod Tapped
 pub mod FaultLines

@@ -1,4 +1,4 @@
--- A plan as a document: all keys are there, and the taps stand in it.
+-- A plan as a document of a version: all keys are there, and the taps stand in it.
 use Rattle.std.specs.Prelude.{ℕ, ℤ, pos, List, [], ◌∷◌, codes}
 use Rattle.std.specs.Ordering.{nat_cmp, match_ordering}
 use Rattle.std.specs.Cmp.Lexicographic.{slice_cmp}
@@ -61,6 +61,6 @@ abbrev pub element_items : List Element → Items
 element_items [] = no_items
 element_items (e ∷ es) = item (table (element_members e)) (element_items es)
 
-abbrev pub plan_members : Plan → Members
-plan_members plan =
-    with_value key.Element (array (element_items plan.elements)) (with_number key.Ticks plan.ticks (with_number key.Width plan.width (with_number key.Version (pos 1) no_members)))
+abbrev pub plan_members : ℕ → Plan → Members
+plan_members version plan =
+    with_value key.Element (array (element_items plan.elements)) (with_number key.Ticks plan.ticks (with_number key.Width plan.width (with_number key.Version (pos version) no_members)))

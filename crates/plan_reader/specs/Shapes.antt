@@ -1,5 +1,5 @@
 -- An element of a plan file: its kind, its numbers, where its taps stand, and which keys it has.
-use Rattle.std.specs.Prelude.{ℕ, ℤ, pos, List, [], ◌∷◌, codes, nat_eq, length, Bool, false, if◌then◌else◌, Option, Some, None, Result, Ok, Err}
+use Rattle.std.specs.Prelude.{ℕ, ℤ, pos, List, [], ◌∷◌, codes, nat_eq, length, Bool, false, ◌&&◌, if◌then◌else◌, Option, Some, None, Result, Ok, Err}
 use Rattle.std.specs.Str.{bytes_eq}
 use Rattle.toml.specs.Data.{Data, Items, Members, as_str, as_array}
 use Rattle.mr_values.specs.declared.plan.Element.{Element}
@@ -7,7 +7,7 @@ use Rattle.mr_values.specs.declared.plan.Element.TheVariants as element
 use Rattle.mr_values.specs.declared.plan.Form.{Form}
 use Rattle.mr_values.specs.declared.plan.Form.TheVariants.{Parallel, Symmetric, HalfBand, Folded, Distributed}
 use Rattle.mr_values.specs.declared.plan.Mode.{Mode}
-use Rattle.mr_values.specs.declared.plan.Mode.TheVariants.{HalfUp, Floor}
+use Rattle.mr_values.specs.declared.plan.Mode.TheVariants.{HalfUp, HalfEven, Floor}
 use Rattle.plan_reader.specs.declared.keys.Key.{Key}
 use Rattle.plan_reader.specs.declared.keys.Key.TheVariants as key
 use Rattle.plan_reader.specs.declared.keys.FieldFault.{FieldFault}
@@ -20,29 +20,31 @@ use Rattle.plan_reader.specs.declared.shape.Shape.{Shape}
 use Rattle.plan_reader.specs.declared.shape.Shape.TheVariants as shape
 use Rattle.plan_reader.specs.Fields.{and_then, listed, required, or_default, at_key, value_at, number_at, number_or, items_at, are_numbers, numbers_of}
 
--- ---- words
+-- ---- words of a version
 
-abbrev pub kind_of : List ℕ → Option Kind
-kind_of word =
+abbrev pub kind_of : ℕ → List ℕ → Option Kind
+kind_of version word =
     if bytes_eq word (codes "up") then Some kind.Up
     else if bytes_eq word (codes "down") then Some kind.Down
     else if bytes_eq word (codes "filter") then Some kind.Filter
     else if bytes_eq word (codes "cic_down") then Some kind.CicDown
     else if bytes_eq word (codes "cic_up") then Some kind.CicUp
     else if bytes_eq word (codes "round") then Some kind.Round
+    else if nat_eq version 2 && bytes_eq word (codes "clip") then Some kind.Clip
     else None
 
-abbrev pub mode_of : List ℕ → Option Mode
-mode_of word =
+abbrev pub mode_of : ℕ → List ℕ → Option Mode
+mode_of version word =
     if bytes_eq word (codes "half_up") then Some HalfUp
     else if bytes_eq word (codes "floor") then Some Floor
+    else if nat_eq version 2 && bytes_eq word (codes "half_even") then Some HalfEven
     else None
 
-abbrev pub kind_at : Members → Result Kind FieldFault
-kind_at ms = at_key key.Kind (and_then (required as_str (value_at key.Kind ms)) (λ word. listed (kind_of word)))
+abbrev pub kind_at : ℕ → Members → Result Kind FieldFault
+kind_at version ms = at_key key.Kind (and_then (required as_str (value_at key.Kind ms)) (λ word. listed (kind_of version word)))
 
-abbrev pub mode_at : Members → Result Mode FieldFault
-mode_at ms = at_key key.Mode (and_then (or_default as_str (codes "half_up") (value_at key.Mode ms)) (λ word. listed (mode_of word)))
+abbrev pub mode_at : ℕ → Members → Result Mode FieldFault
+mode_at version ms = at_key key.Mode (and_then (or_default as_str (codes "half_up") (value_at key.Mode ms)) (λ word. listed (mode_of version word)))
 
 -- the form of this word, with its number at a key of its own
 abbrev pub form_of : List ℕ → Members → Result Form FieldFault
@@ -90,19 +92,20 @@ source_at ms = source_of (value_at key.Taps ms) (value_at key.TapsFile ms)
 
 -- ---- an element
 
-abbrev pub shape_of_kind : Kind → Members → Result Shape FieldFault
-shape_of_kind kind.Up ms = and_then (number_at key.Factor ms) (λ factor. Ok (shape.Up factor))
-shape_of_kind kind.Down ms = and_then (number_at key.Factor ms) (λ factor. Ok (shape.Down factor))
-shape_of_kind kind.Filter ms = and_then (source_at ms) (λ source. and_then (form_at ms) (λ form. Ok (shape.Filter source form)))
-shape_of_kind kind.CicDown ms =
+abbrev pub shape_of_kind : ℕ → Kind → Members → Result Shape FieldFault
+shape_of_kind version kind.Up ms = and_then (number_at key.Factor ms) (λ factor. Ok (shape.Up factor))
+shape_of_kind version kind.Down ms = and_then (number_at key.Factor ms) (λ factor. Ok (shape.Down factor))
+shape_of_kind version kind.Filter ms = and_then (source_at ms) (λ source. and_then (form_at ms) (λ form. Ok (shape.Filter source form)))
+shape_of_kind version kind.CicDown ms =
     and_then (number_at key.Factor ms) (λ factor. and_then (number_at key.Stages ms) (λ stages. and_then (number_or key.Delay (pos 1) ms) (λ delay. Ok (shape.CicDown factor stages delay))))
-shape_of_kind kind.CicUp ms =
+shape_of_kind version kind.CicUp ms =
     and_then (number_at key.Factor ms) (λ factor. and_then (number_at key.Stages ms) (λ stages. and_then (number_or key.Delay (pos 1) ms) (λ delay. Ok (shape.CicUp factor stages delay))))
-shape_of_kind kind.Round ms = and_then (number_at key.Shift ms) (λ shift. and_then (mode_at ms) (λ mode. Ok (shape.Round shift mode)))
+shape_of_kind version kind.Round ms = and_then (number_at key.Shift ms) (λ shift. and_then (mode_at version ms) (λ mode. Ok (shape.Round shift mode)))
+shape_of_kind version kind.Clip ms = and_then (number_at key.Bits ms) (λ bits. Ok (shape.Clip bits))
 
 -- the kind and the numbers that a table says, or its first wrong field
-abbrev pub shape_of : Members → Result Shape FieldFault
-shape_of ms = and_then (kind_at ms) (λ kind. shape_of_kind kind ms)
+abbrev pub shape_of : ℕ → Members → Result Shape FieldFault
+shape_of version ms = and_then (kind_at version ms) (λ kind. shape_of_kind version kind ms)
 
 -- the keys of each kind and form
 abbrev pub filter_keys : Form → List Key
@@ -117,6 +120,7 @@ keys_of (shape.Filter source form) = filter_keys form
 keys_of (shape.CicDown factor stages delay) = key.Kind ∷ key.Factor ∷ key.Stages ∷ key.Delay ∷ []
 keys_of (shape.CicUp factor stages delay) = key.Kind ∷ key.Factor ∷ key.Stages ∷ key.Delay ∷ []
 keys_of (shape.Round shift mode) = key.Kind ∷ key.Shift ∷ key.Mode ∷ []
+keys_of (shape.Clip bits) = key.Kind ∷ key.Bits ∷ []
 
 -- the element, without taps where they stand in a file of their own
 abbrev pub taps_of : TapSource → Members → List ℤ
@@ -130,6 +134,7 @@ element_of (shape.Filter source form) ms = element.Filter (taps_of source ms) fo
 element_of (shape.CicDown factor stages delay) ms = element.CicDown factor stages delay
 element_of (shape.CicUp factor stages delay) ms = element.CicUp factor stages delay
 element_of (shape.Round shift mode) ms = element.Round shift mode
+element_of (shape.Clip bits) ms = element.Clip bits
 
 -- the name of the tap file
 abbrev pub text_of : Option Data → Option (List ℕ)

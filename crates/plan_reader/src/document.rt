@@ -4,7 +4,7 @@ ghost use Rattle.toml.specs.Data.{as_table};
 ghost use Rattle.toml.specs.View.{view, items_view, table_view};
 ghost use Rattle.plan_reader.specs.Fields.{key_text, items_at, numbers_of, value_at};
 ghost use Rattle.plan_reader.specs.Shapes.{element_of, file_of, text_of, taps_of};
-ghost use Rattle.plan_reader.specs.Documents.{in_element, no_other, element_with, element_from, element_value, elements_from, file_list, tables_at, sizes_of, top_of, plan_of};
+ghost use Rattle.plan_reader.specs.Documents.{in_element, no_other, element_with, element_from, element_value, elements_from, file_list, tables_at, version_of, sizes_of, top_of, plan_of};
 ghost use Rattle.plan_reader.specs.Answers.{Gives, GivesElements};
 
 use crate::fault::{FieldWhy, PlanReadFault};
@@ -16,9 +16,10 @@ use mr_values::{Element, Elements, Memory, Plan, Taps, Text};
 use std::alloc::Global;
 use toml::{Table, Value};
 
-/// The numbers of a plan beside its elements.
+/// The version and the numbers of a plan beside its elements.
 #[derive(Clone, Copy, Debug, PartialEq, Eq)]
 pub struct Top {
+    pub version: u8,
     pub width: i64,
     pub ticks: i64,
 }
@@ -35,8 +36,9 @@ pub fn plan_of(alloc: Global, table: &Table) -> Result<PlanText, PlanReadFault>
     ensures { Gives (plan_of (table_view table.now)) result }
 {
     let top = top_of(alloc, table)?;
-    let (elements, files) = elements_of(alloc, items_at(table, Key::Element))?;
+    let (elements, files) = elements_of(alloc, top.version, items_at(table, Key::Element))?;
     Ok(PlanText {
+        version: top.version,
         plan: Plan {
             width: top.width,
             ticks: top.ticks,
@@ -49,11 +51,9 @@ pub fn plan_of(alloc: Global, table: &Table) -> Result<PlanText, PlanReadFault>
 fn top_of(alloc: Global, table: &Table) -> Result<Top, PlanReadFault>
     ensures { Gives (top_of (table_view table.now)) result }
 {
-    let version = in_element(alloc, 0, number_at(table, Key::Version))?;
-    if version != 1 {
-        return Err(PlanReadFault::Version { found: version });
-    }
-    let top = in_element(alloc, 0, sizes_of(table))?;
+    let found = in_element(alloc, 0, number_at(table, Key::Version))?;
+    let version = version_of(found)?;
+    let top = in_element(alloc, 0, sizes_of(table, version))?;
     no_other(
         alloc,
         0,
@@ -63,13 +63,30 @@ fn top_of(alloc: Global, table: &Table) -> Result<Top, PlanReadFault>
     Ok(top)
 }
 
-fn sizes_of(table: &Table) -> Result<Top, FieldFault>
-    ensures { result ≡ sizes_of (table_view table.now) }
+// One of the versions that are read.
+fn version_of(found: i64) -> Result<u8, PlanReadFault>
+    ensures { result ≡ version_of found }
+{
+    if found == 1 {
+        Ok(1)
+    } else if found == 2 {
+        Ok(2)
+    } else {
+        Err(PlanReadFault::Version { found })
+    }
+}
+
+fn sizes_of(table: &Table, version: u8) -> Result<Top, FieldFault>
+    ensures { result ≡ sizes_of version (table_view table.now) }
 {
     let width = number_at(table, Key::Width)?;
     let ticks = number_or(table, Key::Ticks, 1)?;
     tables_at(table)?;
-    Ok(Top { width, ticks })
+    Ok(Top {
+        version,
+        width,
+        ticks,
+    })
 }
 
 fn tables_at(table: &Table) -> Result<(), FieldFault>
@@ -99,9 +116,10 @@ fn tables_at(table: &Table) -> Result<(), FieldFault>
 
 fn elements_of(
     alloc: Global,
+    version: u8,
     values: &[Value],
 ) -> Result<(Vec<Element>, Vec<TapFile>), PlanReadFault>
-    ensures { GivesElements (elements_from 1 (items_view values.now)) result }
+    ensures { GivesElements (elements_from version 1 (items_view values.now)) result }
 {
     let mut elements = Vec::new(alloc);
     let mut files = Vec::new(alloc);
@@ -110,7 +128,7 @@ fn elements_of(
             return Err(PlanReadFault::Memory);
         }
         let number = index as u32 + 1;
-        let read = element_value(alloc, number, value)?;
+        let read = element_value(alloc, version, number, value)?;
         elements.push(read.element)?;
         push_file(&mut files, number, read.file)?;
     }
@@ -133,19 +151,29 @@ fn push_file(files: &mut Vec<TapFile>, number: u32, file: Option<Text>) -> Resul
     }
 }
 
-fn element_value(alloc: Global, number: u32, value: &Value) -> Result<ReadElement, PlanReadFault>
-    ensures { Gives (element_value number (as_table (view value.now))) result }
+fn element_value(
+    alloc: Global,
+    version: u8,
+    number: u32,
+    value: &Value,
+) -> Result<ReadElement, PlanReadFault>
+    ensures { Gives (element_value version number (as_table (view value.now))) result }
 {
     match value.as_table() {
-        Some(table) => element_from(alloc, number, table),
+        Some(table) => element_from(alloc, version, number, table),
         None => Err(field_fault(alloc, 0, key_text(Key::Element), FieldWhy::WrongType)),
     }
 }
 
-fn element_from(alloc: Global, number: u32, table: &Table) -> Result<ReadElement, PlanReadFault>
-    ensures { Gives (element_from number (table_view table.now)) result }
+fn element_from(
+    alloc: Global,
+    version: u8,
+    number: u32,
+    table: &Table,
+) -> Result<ReadElement, PlanReadFault>
+    ensures { Gives (element_from version number (table_view table.now)) result }
 {
-    let shape = in_element(alloc, number, shape_of(table))?;
+    let shape = in_element(alloc, number, shape_of(table, version))?;
     no_other(alloc, number, keys_of(shape), table)?;
     let element = element_of(alloc, shape, table)?;
     let file = file_of(alloc, shape, table)?;
@@ -181,6 +209,7 @@ fn element_of(alloc: Global, shape: Shape, table: &Table) -> Result<Element, Mem
             delay,
         },
         Shape::Round { shift, mode } => Element::Round { shift, mode },
+        Shape::Clip { bits } => Element::Clip { bits },
     })
 }
 

@@ -42,9 +42,10 @@ impl TapFiles {
     }
 }
 
-/// A plan as its file says it. A filter whose taps stand in a file of their own has none until they are set.
+/// A plan as its file says it, and the version of that file, 1 or 2. A filter whose taps stand in a file of their own has none until they are set.
 #[derive(Debug, Drop)]
 pub struct PlanText {
+    pub version: u8,
     pub plan: Plan,
     pub files: TapFiles,
 }
@@ -57,6 +58,7 @@ impl PlanText {
     pub fn set_taps(&mut self, element: u32, taps: Vec<i64>)
         ensures plan { self.new.plan ≡ plan_tapped element taps.items self.old.plan }
         ensures files { self.new.files ≡ self.old.files }
+        ensures version { self.new.version ≡ self.old.version }
     {
         let none = Elements::from_vec(Vec::new(*taps.allocator()));
         let mut elements = mem::replace(&mut self.plan.elements, none).into_vec();

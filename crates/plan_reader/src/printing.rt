@@ -1,9 +1,9 @@
 // Plans as files.
 ghost use Rattle.std.specs.Prelude.{◌≡◌, [], Ok, IfOk, OnOk};
 ghost use Rattle.mr_values.specs.declared.plan.Plan.{Plan};
-ghost use Rattle.mr_values.specs.Value.{AreFirst};
 ghost use Rattle.toml.specs.View.{view, items_view, table_view};
 ghost use Rattle.plan_reader.specs.Documents.{Says};
+ghost use Rattle.plan_reader.specs.Versions.{IsVersioned};
 ghost use Rattle.plan_reader.specs.Printed.{with_value, with_number, with_word, with_form, with_kind, number_items, mode_word, element_members, element_items, plan_members};
 
 use crate::keys::{Key, key_text};
@@ -11,12 +11,13 @@ use mr_values::{Element, Form, Memory, Mode, Plan};
 use std::alloc::Global;
 use toml::{Table, Value};
 
-/// The text of a plan file of version 1 that reads as the plan, with all keys and with the taps in it. Fails only for want of memory.
-pub fn plan_text(alloc: Global, plan: &Plan) -> Result<Vec<u8>, Memory>
-    requires { AreFirst plan.now.elements }
-    ensures { IfOk result (λ text. Says text.items (Ok (record { plan = plan.now; files = [] }))) }
+/// The text of a plan file of this version that reads as the plan, with all keys and with the taps in it. A plan that
+/// clips or rounds halves to even has version 2. Fails only for want of memory.
+pub fn plan_text(alloc: Global, version: u8, plan: &Plan) -> Result<Vec<u8>, Memory>
+    requires { IsVersioned version plan.now.elements }
+    ensures { IfOk result (λ text. Says text.items (Ok (record { version = version; plan = plan.now; files = [] }))) }
 {
-    let table = plan_table(alloc, plan)?;
+    let table = plan_table(alloc, version, plan)?;
     match toml::table_to_string(alloc, &table) {
         Ok(text) => copied(alloc, text.as_str()),
         Err(_) => Err(Memory),
@@ -30,11 +31,11 @@ fn copied(alloc: Global, text: &str) -> Result<Vec<u8>, Memory>
     Ok(bytes)
 }
 
-fn plan_table(alloc: Global, plan: &Plan) -> Result<Table, Memory>
-    ensures { IfOk result (λ table. table_view table ≡ plan_members plan.now) }
+fn plan_table(alloc: Global, version: u8, plan: &Plan) -> Result<Table, Memory>
+    ensures { IfOk result (λ table. table_view table ≡ plan_members version plan.now) }
 {
     let mut table = Table::new(alloc);
-    put_number(alloc, &mut table, Key::Version, 1)?;
+    put_number(alloc, &mut table, Key::Version, i64::from(version))?;
     put_number(alloc, &mut table, Key::Width, plan.width)?;
     put_number(alloc, &mut table, Key::Ticks, plan.ticks)?;
     let elements = element_values(alloc, plan.elements.as_slice())?;

@@ -18,6 +18,7 @@ pub enum Kind {
     CicDown,
     CicUp,
     Round,
+    Clip,
 }
 
 /// Where the taps of a filter stand: in the plan file, or in a file of their own.
@@ -54,18 +55,21 @@ pub enum Shape {
         shift: i64,
         mode: Mode,
     },
+    Clip {
+        bits: i64,
+    },
 }
 
-/// The kind and the numbers that a table says, or its first wrong field.
-pub fn shape_of(table: &Table) -> Result<Shape, FieldFault>
-    ensures { result ≡ shape_of (table_view table.now) }
+/// The kind and the numbers that a table says in a plan of this version, or its first wrong field.
+pub fn shape_of(table: &Table, version: u8) -> Result<Shape, FieldFault>
+    ensures { result ≡ shape_of version (table_view table.now) }
 {
-    let kind = kind_at(table)?;
-    shape_of_kind(table, kind)
+    let kind = kind_at(table, version)?;
+    shape_of_kind(table, version, kind)
 }
 
-fn shape_of_kind(table: &Table, kind: Kind) -> Result<Shape, FieldFault>
-    ensures { result ≡ shape_of_kind kind (table_view table.now) }
+fn shape_of_kind(table: &Table, version: u8, kind: Kind) -> Result<Shape, FieldFault>
+    ensures { result ≡ shape_of_kind version kind (table_view table.now) }
 {
     match kind {
         Kind::Up => Ok(Shape::Up {
@@ -90,7 +94,10 @@ fn shape_of_kind(table: &Table, kind: Kind) -> Result<Shape, FieldFault>
         }),
         Kind::Round => Ok(Shape::Round {
             shift: number_at(table, Key::Shift)?,
-            mode: mode_at(table)?,
+            mode: mode_at(table, version)?,
+        }),
+        Kind::Clip => Ok(Shape::Clip {
+            bits: number_at(table, Key::Bits)?,
         }),
     }
 }
@@ -106,6 +113,7 @@ pub fn keys_of(shape: Shape) -> &'static [Key]
         Shape::CicDown { .. } => &[Key::Kind, Key::Factor, Key::Stages, Key::Delay],
         Shape::CicUp { .. } => &[Key::Kind, Key::Factor, Key::Stages, Key::Delay],
         Shape::Round { .. } => &[Key::Kind, Key::Shift, Key::Mode],
+        Shape::Clip { .. } => &[Key::Kind, Key::Bits],
     }
 }
 
@@ -121,8 +129,8 @@ fn filter_keys(form: Form) -> &'static [Key]
     }
 }
 
-fn kind_at(table: &Table) -> Result<Kind, FieldFault>
-    ensures { result ≡ kind_at (table_view table.now) }
+fn kind_at(table: &Table, version: u8) -> Result<Kind, FieldFault>
+    ensures { result ≡ kind_at version (table_view table.now) }
 {
     let Some(value) = value_at(table, Key::Kind) else {
         return Err(FieldFault {
@@ -136,7 +144,7 @@ fn kind_at(table: &Table) -> Result<Kind, FieldFault>
             why: FieldWhy::WrongType,
         });
     };
-    match kind_of(word) {
+    match kind_of(word, version) {
         Some(kind) => Ok(kind),
         None => Err(FieldFault {
             key: Key::Kind,
@@ -145,8 +153,8 @@ fn kind_at(table: &Table) -> Result<Kind, FieldFault>
     }
 }
 
-fn kind_of(word: &str) -> Option<Kind>
-    ensures { result ≡ kind_of word.now }
+fn kind_of(word: &str, version: u8) -> Option<Kind>
+    ensures { result ≡ kind_of version word.now }
 {
     if word == "up" {
         Some(Kind::Up)
@@ -160,13 +168,15 @@ fn kind_of(word: &str) -> Option<Kind>
         Some(Kind::CicUp)
     } else if word == "round" {
         Some(Kind::Round)
+    } else if version == 2 && word == "clip" {
+        Some(Kind::Clip)
     } else {
         None
     }
 }
 
-fn mode_at(table: &Table) -> Result<Mode, FieldFault>
-    ensures { result ≡ mode_at (table_view table.now) }
+fn mode_at(table: &Table, version: u8) -> Result<Mode, FieldFault>
+    ensures { result ≡ mode_at version (table_view table.now) }
 {
     let Some(value) = value_at(table, Key::Mode) else {
         return Ok(Mode::HalfUp);
@@ -177,7 +187,7 @@ fn mode_at(table: &Table) -> Result<Mode, FieldFault>
             why: FieldWhy::WrongType,
         });
     };
-    match mode_of(word) {
+    match mode_of(word, version) {
         Some(mode) => Ok(mode),
         None => Err(FieldFault {
             key: Key::Mode,
@@ -186,13 +196,15 @@ fn mode_at(table: &Table) -> Result<Mode, FieldFault>
     }
 }
 
-fn mode_of(word: &str) -> Option<Mode>
-    ensures { result ≡ mode_of word.now }
+fn mode_of(word: &str, version: u8) -> Option<Mode>
+    ensures { result ≡ mode_of version word.now }
 {
     if word == "half_up" {
         Some(Mode::HalfUp)
     } else if word == "floor" {
         Some(Mode::Floor)
+    } else if version == 2 && word == "half_even" {
+        Some(Mode::HalfEven)
     } else {
         None
     }

@@ -24,6 +24,7 @@ use Rattle.extreme_file.proofs.Numerals.{one_plain, plain_decimal}
 use Rattle.filter_text.specs.Registers.{HasLinearRegisters, IsExtremeOf}
 use Rattle.filter_text.proofs.SumExtreme.{sum_extreme}
 use Rattle.register_extremes.specs.Text.{IsExtremeText}
+use Rattle.register_extremes.proofs.Sizes.{two_bits}
 
 -- ---- a file of samples has room for the text of a small name
 
@@ -84,7 +85,9 @@ text_of plan accepted register x text is lines reads =
     let narrow : size plan.width ≤ 64 = size_most plan.width 64 limits.width_high in
     record {
       wide = record { place = is.wide.place; r = is.r; there = is.wide.there; named = is.named; sum = is.s; needed = is.wide.needed };
+      two = two_bits (size plan.width) (size plan.ticks) plan.elements is.wide.place is.r is.s is.wide.there is.wide.needed;
       samples = x.samples.items;
+      few = is.few;
       tick = x.tick;
       value = x.value;
       lines = lines;

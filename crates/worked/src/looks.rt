@@ -60,12 +60,12 @@ pub fn is_accepted(alloc: Global, file: &[u8], wanted: &str) -> Result<bool, Mem
     Ok(numbers.as_str() == wanted)
 }
 
-/// Whether both files read as the same plan.
+/// Whether both files read as the same plan, in the same version.
 pub fn is_same_plan(alloc: Global, one: &[u8], other: &[u8]) -> Result<bool, Memory> {
     let (Ok(one), Ok(other)) = (read_plan(alloc, one), read_plan(alloc, other)) else {
         return Ok(false);
     };
-    let one = plan_text(alloc, &one.plan)?;
-    let other = plan_text(alloc, &other.plan)?;
+    let one = plan_text(alloc, one.version, &one.plan)?;
+    let other = plan_text(alloc, other.version, &other.plan)?;
     Ok(one.as_slice() == other.as_slice())
 }

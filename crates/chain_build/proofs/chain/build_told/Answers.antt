@@ -21,6 +21,7 @@ use Rattle.chain_build.specs.Shapes.{HaveLinearItems}
 use Rattle.chain_build.proofs.ChainLemmas.{empty, built-groups, bound3, chain_net, chain_costs, chain_shapes, over, carried_from, shows}
 use Rattle.chain_build.proofs.GroupsSoFar.{outputs_grouped}
 use Rattle.chain_build.proofs.LinearBuilt.{has_linear}
+use Rattle.chain_build.proofs.OutputLemmas.{can_show}
 use Rattle.plan_laws.proofs.Passes.{passes_of}
 use Rattle.chain_build.proofs.ExactPrefixes.{unrounded-linear}
 use Rattle.chain_build.proofs.OutputRange.{room-chain}
@@ -33,6 +34,9 @@ use Rattle.chain_build.proofs.chain.build_told.Goals as goal
 
 pub add_groups-requires-clause-built : goal.add_groups-requires-clause-built
 add_groups-requires-clause-built c = built-groups c.args.plan.now.elements c.requires.built
+
+pub add_chain_outputs-requires-clause-can : goal.add_chain_outputs-requires-clause-can
+add_chain_outputs-requires-clause-can c = can_show c.in_ok-chained.ensures.ok
 
 pub add_chain_outputs-requires-clause-room : goal.add_chain_outputs-requires-clause-room
 add_chain_outputs-requires-clause-room c =

@@ -1,5 +1,4 @@
 use Rattle.std.proofs.Common.{◌≡◌, ◌∙◌, ap, sym, subst, true}
-use Rattle.std.specs.Prelude.{IfOk}
 use Rattle.std.proofs.lemmas.Result.{IfOk-weaker}
 use Rattle.mr_values.specs.Timing.{up_factor, down_factor}
 use Rattle.plan_check.specs.declared.group.PlanGroup.{PlanGroup}
@@ -20,6 +19,6 @@ returns-in-Fir-clause-ok g c =
     (filter_added _ _ _ (flow_before c.args.from.period c.args.fact.now) (g.R.Ranges.streams c.args.ranges.now) c.args.net.now c.add_filter.new.net c.args.from added _ _ _ _ c.filter_or_one.ensures.form c.filter_or_one.ensures.taps
     (c.up.ensures.value ∙ ap (λ (parts : PlanGroup). up_factor (group_of parts)) c.in-Fir.is)
     (c.down.ensures.value ∙ ap (λ (parts : PlanGroup). down_factor (group_of parts)) c.in-Fir.is)
-    (subst (λ (parts : PlanGroup). group_fits (group_of parts) (flow_before c.args.from.period c.args.fact.now) ≡ true) c.in-Fir.is c.requires.fits)
+    (subst (λ (parts : PlanGroup). group_fits (group_of parts) (flow_before c.args.from.period c.args.fact.now) ≡ true) c.in-Fir.is c.requires.can.fits)
     is))
     c.add_filter.ensures.ok

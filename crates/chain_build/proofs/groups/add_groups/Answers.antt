@@ -13,7 +13,7 @@ use Rattle.chain_build.proofs.RegistersSoFar.{RegistersSoFar, RegistersSoFar-sta
 use Rattle.chain_build.proofs.PeaksSoFar.{PeaksSoFar-start, peaks_next, peaks_end}
 use Rattle.chain_build.proofs.StepAt.{registers_next, registers_end}
 use Rattle.chain_build.proofs.Roundings.{rounded-more}
-use Rattle.chain_build.proofs.SoFar.{SoFar-plan, SoFar-next, SoFar-all, SoFar-end, SoFar-none, no_facts, so_at, so_none, so_all, is_built_head, is_fitting, unused, taking}
+use Rattle.chain_build.proofs.SoFar.{SoFar-plan, SoFar-next, SoFar-all, SoFar-end, SoFar-none, no_facts, so_at, so_none, so_all, is_built_head, can_add}
 use Rattle.chain_build.proofs.Taking.{can_take, holds_before}
 use Rattle.chain_build.proofs.groups.add_groups.Goals as goal
 
@@ -35,14 +35,8 @@ loop-fact-init c = (
 pub unreachable-requires : goal.unreachable-requires
 unreachable-requires c = so_none c.args.facts.now.groups.items c.loop-fact.fact-index c.loop-fact.invariant.0.1 (omega (arith, c.deref-fact-items.ensures.len)) c.in_default.ensures
 
-pub add_next-requires-clause-unused : goal.add_next-requires-clause-unused
-add_next-requires-clause-unused c = unused (so_at c.args.facts.now.groups.items c.loop-fact.fact-index c.loop-fact.invariant.0.1 _ no_facts (omega (arith, c.deref-fact-items.ensures.len)) (ap (λ (xs : List GroupFacts). get_or xs c.loop-fact.fact-index no_facts) c.deref-fact-items.ensures.value)) c.in-Some.ensures c.set_group-in-loop-fact.new.self c.set_group-in-loop-fact.ensures
-
-pub add_next-requires-clause-takes : goal.add_next-requires-clause-takes
-add_next-requires-clause-takes c = taking (so_at c.args.facts.now.groups.items c.loop-fact.fact-index c.loop-fact.invariant.0.1 _ no_facts (omega (arith, c.deref-fact-items.ensures.len)) (ap (λ (xs : List GroupFacts). get_or xs c.loop-fact.fact-index no_facts) c.deref-fact-items.ensures.value)) c.in-Some.ensures
-
-pub add_next-requires-clause-fits : goal.add_next-requires-clause-fits
-add_next-requires-clause-fits c = is_fitting (so_at c.args.facts.now.groups.items c.loop-fact.fact-index c.loop-fact.invariant.0.1 _ no_facts (omega (arith, c.deref-fact-items.ensures.len)) (ap (λ (xs : List GroupFacts). get_or xs c.loop-fact.fact-index no_facts) c.deref-fact-items.ensures.value)) c.in-Some.ensures
+pub add_next-requires-clause-can : goal.add_next-requires-clause-can
+add_next-requires-clause-can c = can_add (so_at c.args.facts.now.groups.items c.loop-fact.fact-index c.loop-fact.invariant.0.1 _ no_facts (omega (arith, c.deref-fact-items.ensures.len)) (ap (λ (xs : List GroupFacts). get_or xs c.loop-fact.fact-index no_facts) c.deref-fact-items.ensures.value)) c.in-Some.ensures c.set_group-in-loop-fact.new.self c.set_group-in-loop-fact.ensures
 
 pub add_next-requires-clause-can_take : goal.add_next-requires-clause-can_take
 add_next-requires-clause-can_take c = can_take c.requires.accepted (so_at c.args.facts.now.groups.items c.loop-fact.fact-index c.loop-fact.invariant.0.1 _ no_facts (omega (arith, c.deref-fact-items.ensures.len)) (ap (λ (xs : List GroupFacts). get_or xs c.loop-fact.fact-index no_facts) c.deref-fact-items.ensures.value)) c.in-Some.ensures c.loop-fact.rounded c.loop-fact.invariant.0.2
@@ -61,7 +55,7 @@ loop-fact-preserved c =
       subst (λ (costs : List GroupCost). CostsSoFar (groups c.args.plan.now.elements) c.add_next.new.net.cells (groups c.in-Some.others.now) costs (c.loop-fact.number + 1)) (sym c.in_ok-push.ensures.items)
           (CostsSoFar-next c.loop-fact.invariant.1 c.in-Some.ensures.parts (λ name data_kind more. c.loop-fact.invariant.0.1.names name data_kind (inl more)) (is_built_head so c.in-Some.ensures) c.set_group-in-loop-fact.new.self _ c.loop-fact.last c.in_ok-added.added c.set_group-in-loop-fact.ensures c.in_ok-added.ensures.ok),
       record {
-        own = let own : c.add_next.new.net.group ≡ c.loop-fact.number = c.in_ok-added.ensures.same_group ∙ ap (λ (n : NetView). n.group) c.set_group-in-loop-fact.ensures in inl (omega (arith, own));
+        own = let own : c.add_next.new.net.group ≡ c.loop-fact.number = c.in_ok-added.ensures.keeps.same_group ∙ ap (λ (n : NetView). n.group) c.set_group-in-loop-fact.ensures in inl (omega (arith, own));
       },
     )
 

@@ -7,7 +7,7 @@ use Rattle.net_graph.specs.WellFormed.{IsFree}
 use Rattle.net_graph.proofs.NetLemmas.{Extends-adds, Extends-then, Extends-trans, Extends-register, IsUnbound-added, IsUnbound-then}
 use Rattle.pipeline_balance.specs.Numbered.{name_of}
 use Rattle.pipeline_balance.proofs.NumberedLemmas.{free_adds}
-use Rattle.distributed_table.proofs.SerialLemmas.{AddsAccumulator-circuit, serial_grows}
+use Rattle.distributed_table.proofs.SerialLemmas.{AddsAccumulator-circuit, serial_grows, serial_names}
 use Rattle.distributed_table.proofs.accumulators.add_accumulator.Goals as goal
 
 owned : {old new : NetView} {group own number width : ℕ} {node : Node} → group ≡ own → AddsRegister old new node (name_of group Register number) width → AddsRegister old new node (name_of own Register number) width
@@ -46,3 +46,8 @@ pub returns-clause-extends : goal.returns-clause-extends
 returns-clause-extends c =
     let same : c.group-group.result ≡ c.args.net.now.group = c.group-group.ensures ∙ c.in_ok-negated.ensures.ok.group ∙ c.in_ok-zero.ensures.ok.group in
     (serial_grows c.requires.data_group c.requires.some c.requires.has_table c.in_ok-zero.ensures.ok c.in_ok-negated.ensures.ok (owned same c.in_ok-sum.ensures.ok) c.in_ok-doubled.ensures.ok c.in_ok-added.ensures.ok c.in_ok-next.ensures.ok c.bind.ensures).extends
+
+pub returns-clause-names : goal.returns-clause-names
+returns-clause-names c =
+    let same : c.group-group.result ≡ c.args.net.now.group = c.group-group.ensures ∙ c.in_ok-negated.ensures.ok.group ∙ c.in_ok-zero.ensures.ok.group in
+    serial_names c.requires.data_group c.requires.some c.requires.has_table c.in_ok-zero.ensures.ok c.in_ok-negated.ensures.ok (owned same c.in_ok-sum.ensures.ok) c.in_ok-doubled.ensures.ok c.in_ok-added.ensures.ok c.in_ok-next.ensures.ok c.bind.ensures

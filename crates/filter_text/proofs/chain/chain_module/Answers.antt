@@ -24,7 +24,7 @@ use Rattle.filter_text.proofs.UncutOutput.{keeps_output, keeps_whole}
 use Rattle.filter_text.proofs.LeastOutput.{least_output}
 use Rattle.plan_laws.proofs.Passes.{passes_of}
 use Rattle.filter_text.proofs.CountedText.{chain_counted, chain_costs}
-use Rattle.filter_text.proofs.RegistersText.{registers_text}
+use Rattle.filter_text.proofs.RegistersText.{registers_text, never_cut_text}
 use Rattle.filter_text.proofs.CascadesText.{cascades_text}
 use Rattle.filter_text.proofs.LeastText.{least_text}
 use Rattle.filter_text.proofs.ShapesText.{chain_shaped}
@@ -95,6 +95,7 @@ returns c =
                 subst (λ (p : ℕ). KeepsWhole es W T c.args.facts.now.latency p d) (sym c.requires.are_facts.period_is)
                 (subst (λ (l : ℕ). KeepsWhole es W T l (last_stream W T es).period d) (sym c.requires.are_facts.latency_is) (keeps_whole wide narrow some net d as_written plain));
             registers = registers;
+            never_cut = never_cut_text wide narrow some net small d as_written linear;
             least = least_text some d registers (has_extremes told);
             cascades = cascades_text wide narrow some net small d as_written few c.in_ok-built.ensures.cascades;
             costs = chain_counted es c.in_ok-built.built.costs.items cells few net.netlist small has d as_written;

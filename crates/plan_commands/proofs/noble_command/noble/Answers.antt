@@ -3,7 +3,7 @@ use Rattle.std.proofs.lemmas.Result.{err_from_is_err_and}
 use Rattle.plan_commands.specs.Noble.{IsOutput}
 use Rattle.command_files.specs.WholeFiles.{WriteAnswer}
 use Rattle.command_files.proofs.EndedPlan.{read_on}
-use Rattle.plan_commands.proofs.NobleSteps.{out_written}
+use Rattle.plan_commands.proofs.NobleSteps.{out_written, output_of}
 use Rattle.plan_commands.proofs.noble_command.noble.Goals as goal
 
 pub returns-clause-told : goal.returns-clause-told
@@ -16,7 +16,7 @@ returns-clause-told g c = λ told.
     let written = c.in_ok-write_file.ensures.told told' in
     let is_read = read_on c.args.plan.now c.in_ok-accepted.accepted.plan old read new reading.ended written.input written.place (c.in_ok-write_file.ensures.cause.ends told') in
     let text = c.in_ok-text.text.items in
-    let output : IsOutput c.args.plan.now old.files text = record { meaning = c.in_ok-accepted.accepted.plan; accepted = reading.answer; rewriting = c.in_ok-text.ensures } in
+    let output : IsOutput c.args.plan.now old.files text = output_of c.args.plan.now c.in_ok-accepted.accepted.version c.in_ok-accepted.accepted.plan old.files text reading.versioned c.in_ok-text.ensures in
     out_written c.args.plan.now c.args.out.now text (Ok tt) c.in_ok-accepted.accepted.plan old read new output is_read reading.files
     (subst (λ (bytes : List ℕ). WriteAnswer c.args.out.now bytes (Ok tt) read.files new.files) c.deref.ensures.value written.answer)
 
@@ -33,6 +33,6 @@ returns-in_err-write_file-clause-told g c =
     let written = c.in_err-write_file.ensures.told told' in
     let is_read = read_on c.args.plan.now c.in_ok-accepted.accepted.plan old read new reading.ended written.input written.place (c.in_err-write_file.ensures.cause.ends told') in
     let text = c.in_ok-text.text.items in
-    let output : IsOutput c.args.plan.now old.files text = record { meaning = c.in_ok-accepted.accepted.plan; accepted = reading.answer; rewriting = c.in_ok-text.ensures } in
+    let output : IsOutput c.args.plan.now old.files text = output_of c.args.plan.now c.in_ok-accepted.accepted.version c.in_ok-accepted.accepted.plan old.files text reading.versioned c.in_ok-text.ensures in
     out_written c.args.plan.now c.args.out.now text (Err c.in_err-write_file.field-0.0) c.in_ok-accepted.accepted.plan old read new output is_read reading.files
     (subst (λ (bytes : List ℕ). WriteAnswer c.args.out.now bytes (Err c.in_err-write_file.field-0.0) read.files new.files) c.deref.ensures.value written.answer))

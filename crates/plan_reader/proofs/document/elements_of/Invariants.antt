@@ -6,4 +6,4 @@ use Rattle.plan_reader.proofs.document.elements_of.Given as goal
 
 -- what was read, before what is left, is all
 abbrev pub invariant-loop-index : goal.invariant-loop-index
-invariant-loop-index l = behind l.elements.items l.files.items (elements_from (l.index + 1) (items_view (drop l.index l.values))) ≡ elements_from 1 (items_view l.values)
+invariant-loop-index l = behind l.elements.items l.files.items (elements_from l.version (l.index + 1) (items_view (drop l.index l.values))) ≡ elements_from l.version 1 (items_view l.values)
