@@ -6,6 +6,7 @@
 // pieces SIZE           at most so many bytes are read at once
 // failing NUMBER        this call of the host fails, counted from 0
 // do WORDS              does a command
+// strikes WORDS         does a command on copies of the files, with each call of the host failing in turn, as strikes.rt says
 // ends STATUS FAULT     how it must have ended
 // holds NAME            the file must hold the content that follows, byte for byte
 // lacks NAME            there must be no such file
@@ -15,6 +16,7 @@
 // accepts NAME NUMBERS  the file must be an accepted plan with this latency, period, bound and shift
 use crate::content::add_content;
 use crate::looks::{first_word, has_line, has_lines, is_accepted, is_same_plan};
+use crate::strikes::Struck;
 use filter_core::filter_tool;
 use mr_values::{Memory, MemoryHost};
 use std::alloc::Global;
@@ -33,6 +35,10 @@ enum Content {
 pub struct Bench {
     alloc: Global,
     host: MemoryHost,
+    /// The files that the case gives.
+    names: Vec<String>,
+    /// The most bytes that are read at once, or 0 for any number.
+    piece: usize,
     title: String,
     content: Content,
     bytes: Vec<u8>,
@@ -49,6 +55,8 @@ impl Bench {
         Bench {
             alloc,
             host: MemoryHost::new(alloc),
+            names: Vec::new(alloc),
+            piece: 0,
             title: String::new(alloc),
             content: Content::Nothing,
             bytes: Vec::new(alloc),
@@ -93,6 +101,8 @@ impl Bench {
             Ok(())
         } else if word == "do" {
             self.run(rest)
+        } else if word == "strikes" {
+            self.strike(rest)
         } else if word == "ends" {
             self.compare_end(rest)
         } else if word == "pieces" {
@@ -116,6 +126,8 @@ impl Bench {
     fn begin(&mut self, title: &str) -> Result<(), Memory> {
         self.end_command()?;
         self.host = MemoryHost::new(self.alloc);
+        self.names = Vec::new(self.alloc);
+        self.piece = 0;
         self.title = String::from_str(self.alloc, title)?;
         self.cases = self.cases.saturating_add(1);
         self.is_wrong = false;
@@ -128,6 +140,7 @@ impl Bench {
         if size > 0 {
             self.host.set_piece(size);
         }
+        self.piece = size;
     }
 
     // A file, a count, and the file whose first bytes it has.
@@ -156,7 +169,11 @@ impl Bench {
         let bytes = mem::replace(&mut self.bytes, Vec::new(self.alloc));
         match mem::replace(&mut self.content, Content::Nothing) {
             Content::Nothing => Ok(()),
-            Content::Given(name) => self.host.add_file(name.as_str(), bytes.as_slice()),
+            Content::Given(name) => {
+                self.host.add_file(name.as_str(), bytes.as_slice())?;
+                self.names.push(name)?;
+                Ok(())
+            }
             Content::Wanted(name) => {
                 if self.host.file(name.as_str()) == Some(bytes.as_slice()) {
                     Ok(())
@@ -172,14 +189,35 @@ impl Bench {
         self.differ(line.as_str())
     }
 
-    fn run(&mut self, line: &str) -> Result<(), Memory> {
-        self.end_command()?;
+    fn words(&self, line: &str) -> Result<Vec<String>, Memory> {
         let mut words = Vec::new(self.alloc);
         if !line.is_empty() {
             for word in line.split(' ') {
                 words.push(String::from_str(self.alloc, word)?)?;
             }
         }
+        Ok(words)
+    }
+
+    // The command with each call of the host failing in turn.
+    fn strike(&mut self, line: &str) -> Result<(), Memory> {
+        self.end_command()?;
+        let words = self.words(line)?;
+        let struck = Struck {
+            words: words.as_slice(),
+            files: &self.host,
+            names: self.names.as_slice(),
+            piece: self.piece,
+        };
+        match struck.difference(self.alloc)? {
+            Some(what) => self.differ(what.as_str()),
+            None => Ok(()),
+        }
+    }
+
+    fn run(&mut self, line: &str) -> Result<(), Memory> {
+        self.end_command()?;
+        let words = self.words(line)?;
         let outcome = filter_tool(self.alloc, &words, &mut self.host);
         let end = match &outcome.fault {
             Some(fault) => format!(in self.alloc; "{} {fault}", outcome.status)?,

@@ -4,12 +4,13 @@
 mod bench;
 mod content;
 mod looks;
+mod strikes;
 
 use bench::Bench;
 use std::io::ErrorKind;
 use std::{fs, io};
 
-const SUBJECTS: [&str; 11] = [
+const SUBJECTS: [&str; 12] = [
     "words.txt",
     "plan_files.txt",
     "limits.txt",
@@ -21,6 +22,7 @@ const SUBJECTS: [&str; 11] = [
     "cycles.txt",
     "orders.txt",
     "large.txt",
+    "strikes.txt",
 ];
 
 fn main(rt: HostRuntime) -> io::Result<()> {
