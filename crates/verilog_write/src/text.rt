@@ -54,18 +54,18 @@ fn write_port_end(out: &mut Vec<Token>) -> Result<(), Memory>
 }
 
 // The tokens of a module.
-fn tokens_of(alloc: Global, module: &Module) -> Result<Vec<Token>, Memory>
-    requires { 0 < length (ports_in (design_view module.now).signals) }
-    ensures { IfOk result (λ tokens. tokens.items ≡ tokens_of (number_in (design_view module.now).names clock_text) (text_of (design_view module.now))) }
+fn tokens_of(alloc: Global, tree: &Module) -> Result<Vec<Token>, Memory>
+    requires { 0 < length (ports_in (design_view tree.now).signals) }
+    ensures { IfOk result (λ tokens. tokens.items ≡ tokens_of (number_in (design_view tree.now).names clock_text) (text_of (design_view tree.now))) }
 {
-    let clock = number_in(&module.names, "clk");
+    let clock = number_in(&tree.names, "clk");
     let mut tokens = Vec::new(alloc);
-    write_head(module.name, &mut tokens)?;
-    write_ports(&module.signals, &mut tokens)?;
+    write_head(tree.name, &mut tokens)?;
+    write_ports(&tree.signals, &mut tokens)?;
     write_port_end(&mut tokens)?;
-    write_declarations(&module.signals, &mut tokens)?;
-    write_assigns(&module.assigns, &mut tokens)?;
-    write_blocks(&module.blocks, clock, &mut tokens)?;
+    write_declarations(&tree.signals, &mut tokens)?;
+    write_assigns(&tree.assigns, &mut tokens)?;
+    write_blocks(&tree.blocks, clock, &mut tokens)?;
     put_word(&mut tokens, Word::EndModule)?;
     Ok(tokens)
 }
@@ -88,22 +88,22 @@ fn bytes_of(alloc: Global, names: &[Text], tokens: &[Token]) -> Result<Vec<u8>, 
 }
 
 // The text of a module that has a writing.
-fn text_of_tree(alloc: Global, module: &Module) -> Result<Vec<u8>, Memory>
-    requires { IsWritable limits (design_view module.now) }
-    ensures reads { IfOk result (λ text. (design : Design) × Reads text.items design × IsAlike design (design_view module.now) × Along (IsAlikeSignal (SameName design.names (design_view module.now).names)) design.signals (ordered_signals (design_view module.now))) }
-    ensures same { IsInOrder (design_view module.now) → IfOk result (λ text. (design : Design) × Reads text.items design × IsSameButPlaces design (design_view module.now)) }
+fn text_of_tree(alloc: Global, tree: &Module) -> Result<Vec<u8>, Memory>
+    requires { IsWritable limits (design_view tree.now) }
+    ensures reads { IfOk result (λ text. (design : Design) × Reads text.items design × IsAlike design (design_view tree.now) × Along (IsAlikeSignal (SameName design.names (design_view tree.now).names)) design.signals (ordered_signals (design_view tree.now))) }
+    ensures same { IsInOrder (design_view tree.now) → IfOk result (λ text. (design : Design) × Reads text.items design × IsSameButPlaces design (design_view tree.now)) }
 {
-    let tokens = tokens_of(alloc, module)?;
-    bytes_of(alloc, &module.names, &tokens)
+    let tokens = tokens_of(alloc, tree)?;
+    bytes_of(alloc, &tree.names, &tokens)
 }
 
 /// The text of a module: a line for each port, declaration, assignment and block. It fails only for want of memory.
-pub fn text_of(alloc: Global, module: &FormedModule) -> Result<Vec<u8>, Memory>
+pub fn text_of(alloc: Global, formed: &FormedModule) -> Result<Vec<u8>, Memory>
     // The text reads as a module that is alike, whose wires and registers stand in their order behind the ports.
-    ensures reads { IfOk result (λ text. (design : Design) × Reads text.items design × IsAlike design (design_view module.now) × Along (IsAlikeSignal (SameName design.names (design_view module.now).names)) design.signals (ordered_signals (design_view module.now))) }
+    ensures reads { IfOk result (λ text. (design : Design) × Reads text.items design × IsAlike design (design_view formed.now) × Along (IsAlikeSignal (SameName design.names (design_view formed.now).names)) design.signals (ordered_signals (design_view formed.now))) }
 
     // Where the names are numbered as they are declared, the ports first, the module itself is read back, but for places.
-    ensures same { IsInOrder (design_view module.now) → IfOk result (λ text. (design : Design) × Reads text.items design × IsSameButPlaces design (design_view module.now)) }
+    ensures same { IsInOrder (design_view formed.now) → IfOk result (λ text. (design : Design) × Reads text.items design × IsSameButPlaces design (design_view formed.now)) }
 {
-    text_of_tree(alloc, module.tree())
+    text_of_tree(alloc, formed.tree())
 }

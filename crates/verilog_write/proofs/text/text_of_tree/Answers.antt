@@ -16,7 +16,7 @@ use Rattle.verilog_write.proofs.text.text_of_tree.Goals as goal
 
 pub bytes_of-requires : goal.bytes_of-requires
 bytes_of-requires c =
-    let d : Design = design_view c.args.module.now in
+    let d : Design = design_view c.args.tree.now in
     let tokens : c.deref-2.result.now ≡ tokens_of (number_in d.names clock_text) (text_of d) = c.deref-2.ensures.value ∙ c.in_ok-tokens.ensures in
     let names : c.deref.result.now ≡ d.names = c.deref.ensures.value in
     subst (λ (ns : List (List ℕ)). AreSpelled ns c.deref-2.result.now) (sym names) (subst (λ (ts : List Token). AreSpelled d.names ts) (sym tokens) (text_spelled limits d c.requires))
@@ -32,7 +32,7 @@ module _ (d : Design) (names : List (List ℕ)) (tokens : List Token) (named : n
 
 pub returns-clause-reads : goal.returns-clause-reads
 returns-clause-reads c =
-    let d : Design = design_view c.args.module.now in
+    let d : Design = design_view c.args.tree.now in
     let tokens : c.deref-2.result.now ≡ tokens_of (number_in d.names clock_text) (text_of d) = c.deref-2.ensures.value ∙ c.in_ok-tokens.ensures in
     if_ok c.bytes_of.result _ _
     (λ (v : Vec ℕ Global) e. (read_back d, subst (λ (bytes : List ℕ). Reads bytes (read_back d)) (sym (written d c.deref.result.now c.deref-2.result.now c.deref.ensures.value tokens v.items e)) (reads_back d c.requires), alike_back d c.requires, signals_back d c.requires))
@@ -40,7 +40,7 @@ returns-clause-reads c =
 
 pub returns-clause-same : goal.returns-clause-same
 returns-clause-same c order =
-    let d : Design = design_view c.args.module.now in
+    let d : Design = design_view c.args.tree.now in
     let tokens : c.deref-2.result.now ≡ tokens_of (number_in d.names clock_text) (text_of d) = c.deref-2.ensures.value ∙ c.in_ok-tokens.ensures in
     if_ok c.bytes_of.result _ _
     (λ (v : Vec ℕ Global) e. (read_back d, subst (λ (bytes : List ℕ). Reads bytes (read_back d)) (sym (written d c.deref.result.now c.deref-2.result.now c.deref.ensures.value tokens v.items e)) (reads_back d c.requires), same_back d c.requires order))

@@ -16,7 +16,7 @@ use Rattle.verilog_write.proofs.text.tokens_of.Goals as goal
 
 pub returns : goal.returns
 returns c =
-    let d : Design = design_view c.args.module.now in
+    let d : Design = design_view c.args.tree.now in
     let clock = number_in d.names clock_text in
     let ports : c.write_ports.new.out.items ≡ c.write_head.new.out.items ++ port_list Open (ports_in d.signals) = c.in_ok-write_ports.ensures ∙ ap (λ (ss : List Signal). c.write_head.new.out.items ++ port_list Open (ports_in ss)) c.deref-2.ensures.value in
     let stored : c.write_declarations.new.out.items ≡ c.write_port_end.new.out.items ++ items_text 0 (map declared_of (stores_in d.signals)) [] = c.in_ok-write_declarations.ensures ∙ ap (λ (ss : List Signal). c.write_port_end.new.out.items ++ items_text 0 (map declared_of (stores_in ss)) []) c.deref-3.ensures.value in
