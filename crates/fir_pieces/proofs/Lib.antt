@@ -20,6 +20,7 @@ pub mod PeakLemmas
 pub mod PhaseWidthLemmas
 pub mod PhaseDueLemmas
 pub mod RegisteredLemmas
+pub mod ColumnLemmas
 pub mod FormTreeLemmas
 pub mod OnePhaseLemmas
 pub mod CarryLemmas
