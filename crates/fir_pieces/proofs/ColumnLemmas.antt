@@ -15,6 +15,7 @@ use Rattle.fir_pieces.specs.Held.{held_sum, AreHeld}
 use Rattle.fir_pieces.specs.PhaseSums.{IsSumsWidth}
 use Rattle.fir_pieces.specs.Widest.{widest}
 use Rattle.fir_pieces.proofs.PhaseWidthLemmas.{IsSumsWidth-none, IsSumsWidth-more}
+use Rattle.fir_pieces.proofs.ListLemmas.{each_appended}
 use Rattle.fir_pieces.proofs.WidthsLemmas.{slice_get_some, slice_get_mapped, get_or-map}
 
 -- ---- widths
@@ -96,3 +97,19 @@ both_at (a ∷ xs) (b ∷ ys) zero x y is there =
     let second : b ≡ y = cc in
     ap (λ (z : HeldSum). Some (z ∷ b ∷ [])) first ∙ ap (λ (z : HeldSum). Some (x ∷ z ∷ [])) second
 both_at (a ∷ xs) (b ∷ ys) (suc k) x y is there = both_at xs ys k x y is there
+
+-- the sums of a register of the list, with their width
+pub AreAllHeld-at : {all : List (List HeldSum)} {parts : List (List Held)} (streams : Streams) → AreAllHeld streams all parts → (k : ℕ) (sums : List HeldSum) → slice_get all k ≡ Some sums → (held : List Held) × (slice_get parts k ≡ Some held) × IsSumsWidth streams sums (widest held)
+AreAllHeld-at {all} {parts} streams a k sums is =
+    let many : length parts ≡ length all = sym (length-map parts (map held_sum)) ∙ ap length a.same in
+    let inside = slice_get_within all k sums is in
+    let own = slice_get_some parts k (omega (arith, many, inside)) in
+    let here : slice_get all k ≡ Some (map held_sum own.0) = subst (λ (xs : List (List HeldSum)). slice_get xs k ≡ Some (map held_sum own.0)) a.same (slice_get_mapped (map held_sum) parts k own.0 own.1) in
+    let same : map held_sum own.0 ≡ sums = cc in
+    (own.0, own.1, subst (λ (ss : List HeldSum). IsSumsWidth streams ss (widest own.0)) same (widest_least streams own.0 (a.each k own.0 own.1)))
+
+pub AreAllHeld-append : {streams : Streams} {all more : List (List HeldSum)} {parts rest : List (List Held)} → AreAllHeld streams all parts → AreAllHeld streams more rest → AreAllHeld streams (all ++ more) (parts ++ rest)
+AreAllHeld-append {streams} {all} {more} {parts} {rest} a b = record {
+  same = map-append (map held_sum) parts rest ∙ ap (λ (xs : List (List HeldSum)). xs ++ map (map held_sum) rest) a.same ∙ ap (λ (xs : List (List HeldSum)). all ++ xs) b.same;
+  each = each_appended (λ (held : List Held). (j : ℕ) (own : Held) → slice_get held j ≡ Some own → IsRange streams (weights_of own.sum) own.class own.range) parts rest a.each b.each;
+}

@@ -22,6 +22,7 @@ pub mod PhaseDueLemmas
 pub mod RegisteredLemmas
 pub mod ColumnLemmas
 pub mod FormTreeLemmas
+pub mod PhaseTreeLemmas
 pub mod OnePhaseLemmas
 pub mod CarryLemmas
 pub mod LeastLemmas
