@@ -20,6 +20,7 @@ use Rattle.fir_pieces.specs.Form.{reading_form}
 use Rattle.fir_pieces.specs.Peaks.{HoldsForm}
 use Rattle.fir_pieces.specs.Reading.{ReadsWithin, ages, reading_at, spread, terms_at}
 use Rattle.fir_pieces.specs.Sums.{AreShown}
+use Rattle.fir_pieces.specs.Listed.{every}
 use Rattle.fir_pieces.proofs.DueLemmas.{window_holds}
 use Rattle.fir_pieces.proofs.HeldLemmas.{weighted_sum-reading}
 use Rattle.fir_pieces.proofs.ReadingLemmas.{shown_by, term_sum-spread}
@@ -92,7 +93,7 @@ window_narrow {cells} {window} streams depth long w age node is =
                 let value : filter (reading_form (One age)) v (pos (k + age)) ≡ v (pos k -ℤ pos 0) = weighted_sum-reading (One age) (λ i. v (pos (k + age) -ℤ pos i)) ∙ ap v at in
                 let alone : filter (pos 1 ∷ []) v (pos k) ≡ v (pos k -ℤ pos 0) = once (v (pos k -ℤ pos 0)) in
                 subst (λ (z : ℤ). unsigned_abs z * 2 ^ place ≤ 2 ^ room) (value ∙ sym alone) (each v is_one (k + age)) in
-                let narrow = reached_room streams (pos 1 ∷ []) w.width place room w.least earlier low much in
+                let narrow = reached_room streams every (pos 1 ∷ []) w.width place room w.least earlier low much in
                 omega (arith, narrow, most);
           }),
     )

@@ -131,17 +131,17 @@ module _ {mid new : NetView} {from : Stream} {nodes : List Node} {readings : Lis
       ∙ sum_is streams causal positive later cut law x values run v in_streams carried terms places s count is_taken
 
   pub tree_many : length registers ≡ length (tree_sums readings ticks terms levels)
-  tree_many = t.tree.held.count ∙ ap (λ (n : ℕ). count_to n levels) (length-map terms (leaf_of nodes)) ∙ sym (length-tree_sums readings ticks terms levels)
+  tree_many = t.tree.held.count ∙ ap (λ (n : ℕ). count_to n levels) (length-map terms (leaf_of nodes)) ∙ sym (length-tree_sums every (suc ticks) readings terms levels)
 
   pub tree_due : (depth : ℕ) → All (ReadsWithin depth) readings → (count k : ℕ) (s : HeldSum) (node : Node) → IsCounted mid.cells mid.group Register count → slice_get (tree_sums readings ticks terms levels) k ≡ Some s → slice_get registers k ≡ Some node
       → IsDue streams new.cells from depth (ticks + levels) mid.group (name_of mid.group Register (count + k)) s node
   tree_due depth reads count k s node counted is there =
       let inside = slice_get_within (tree_sums readings ticks terms levels) k s is in
-      let long = length-tree_sums readings ticks terms levels in
+      let long = length-tree_sums every (suc ticks) readings terms levels in
       let at = stands (length terms) levels k (omega (arith, inside, long)) in
       let part = term_segment (suc at.level) at.j terms in
       let form = form_of readings part in
-      let same : tree_sum readings ticks terms at.level at.j ≡ s = same_some (subst (λ (n : ℕ). slice_get (tree_sums readings ticks terms levels) n ≡ Some (tree_sum readings ticks terms at.level at.j)) (sym at.at) (tree_sums-at readings ticks terms levels at.level at.j at.low at.within)) is in
+      let same : tree_sum every (suc ticks) readings terms at.level at.j ≡ s = same_some (subst (λ (n : ℕ). slice_get (tree_sums readings ticks terms levels) n ≡ Some (tree_sum every (suc ticks) readings terms at.level at.j)) (sym at.at) (tree_sums-at every (suc ticks) readings terms levels at.level at.j at.low at.within)) is in
       let here : slice_get registers (count_to (length terms) at.level + at.j) ≡ Some node = subst (λ (n : ℕ). slice_get registers n ≡ Some node) at.at there in
       let low = at.low in
       subst (λ (z : HeldSum). IsDue streams new.cells from depth (ticks + levels) mid.group (name_of mid.group Register (count + k)) z node) same

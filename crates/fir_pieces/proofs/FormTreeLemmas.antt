@@ -33,7 +33,7 @@ use Rattle.fir_pieces.proofs.GiveLemmas.{GivesForms-later, GivesForms-plus, Give
 
 -- ---- leaves are terms
 
-signed_once : (m : Bool) (a : ℤ) → signed_by m a ≡ with_sign m 1 *ℤ a
+pub signed_once : (m : Bool) (a : ℤ) → signed_by m a ≡ with_sign m 1 *ℤ a
 signed_once m a = ap (signed_by m) (once a) ∙ one_leaf m a 1
   where
     once : (z : ℤ) → z ≡ z *ℤ pos 1

@@ -31,7 +31,7 @@ use Rattle.stage_law.specs.declared.ranges.Class.{Class}
 use Rattle.stage_law.specs.declared.stage.Peak.{Peak}
 use Rattle.fir_pieces.specs.declared.held.Held.{Held}
 use Rattle.fir_pieces.specs.Listed.{every, unit_form, numbered, window_sums}
-use Rattle.fir_pieces.specs.Held.{AreHeld, held_sum}
+use Rattle.fir_pieces.specs.Held.{AreHeld, IsClassWidth, IsFormWidth, held_sum}
 use Rattle.fir_pieces.specs.Cutting.{AddsWindow}
 use Rattle.fir_pieces.specs.Peaks.{HoldsForm, IsDue, peaks_at}
 use Rattle.fir_pieces.proofs.DueLemmas.{IsDue-later, window_due}
@@ -41,7 +41,7 @@ use Rattle.fir_pieces.proofs.PhaseDueLemmas.{holds_phase, forms_whole}
 use Rattle.fir_pieces.proofs.PeakLemmas.{single_bits, named-peaks_at}
 use Rattle.fir_pieces.specs.Registered.{AreCounted, AreRegisters}
 use Rattle.fir_pieces.proofs.RegisteredLemmas.{AreCounted-left, AreCounted-none, AreCounted-right, AreRegisters-append, HasRegisters-of}
-use Rattle.fir_pieces.proofs.WidthsLemmas.{AreHeld-none, slice_get_some, slice_get_mapped}
+use Rattle.fir_pieces.proofs.WidthsLemmas.{AreHeld-none, AreHeld-at, slice_get_some}
 
 -- ---- one register
 
@@ -132,9 +132,6 @@ no_part counted = record {
 -- the registers of a window
 module _ {old first : NetView} {new : List Cell} {from : Stream} {window : List Node} {values : List Held} {depth : ℕ} (streams : Streams) (levels : ℕ) (causal : AreCausal streams) (positive : 1 ≤ from.period) (w : AddsWindow streams old first from window) (later : Extends first.cells new) (long : depth ≡ length window)
     (values_held : AreHeld streams (window_sums depth) values) where
-  same_sum : (k : ℕ) (x y : HeldSum) → slice_get (window_sums depth) k ≡ Some x → slice_get (window_sums depth) k ≡ Some y → x ≡ y
-  same_sum k x y p q = cc
-
   pub window_part : IsCounted new old.group Window (length window) → IsPart streams new old.group from (length window) levels Window (window_sums depth) window values
   window_part counted = record {
     many = sym long ∙ sym (length-window_sums depth);
@@ -142,14 +139,11 @@ module _ {old first : NetView} {new : List Cell} {from : Stream} {window : List 
     due = λ k h node at there.
         let e = window_sums-at depth k h at in
         let from_none : k ≡ 0 + k = omega arith in
-        let many : length values ≡ length (window_sums depth) = sym (length-map values held_sum) ∙ ap length values_held.same in
-        let own = slice_get_some values k (let inside = slice_get_within (window_sums depth) k h at in omega (arith, many, inside)) in
-        let is_sum : held_sum own.0 ≡ h = same_sum k (held_sum own.0) h (subst (λ (ss : List HeldSum). slice_get ss k ≡ Some (held_sum own.0)) values_held.same (slice_get_mapped held_sum values k own.0 own.1)) at in
-        let form : weights_of own.0.sum ≡ unit_form k = ap (λ (z : HeldSum). z.form) (is_sum ∙ e) in
-        let range : IsRange streams (unit_form k) every own.0.range = subst (λ (f : List ℤ). IsRange streams f every own.0.range) form (values_held.each k own.0 own.1) in
+        let own = AreHeld-at streams values_held k h at in
+        let known : IsFormWidth streams (unit_form k) own.0.width = subst (λ (z : HeldSum). IsClassWidth streams z.class z.form own.0.width) e own.2 in
         subst (λ (n : ℕ). IsDue streams new from (length window) levels old.group (name_of old.group Window n) h node) from_none
         (subst (λ (z : HeldSum). IsDue streams new from (length window) levels old.group (name_of old.group Window k) z node) (sym e)
-        (IsDue-later later (window_due streams levels causal positive w k node there own.0.range range)));
+        (IsDue-later later (window_due streams levels causal positive w k node there known.range known.is_range)));
     counted = subst (λ (n : ℕ). IsCounted new old.group Window n) (sym long ∙ sym (length-window_sums depth)) counted;
   }
 

@@ -20,7 +20,9 @@ pub mod PeakLemmas
 pub mod PhaseWidthLemmas
 pub mod PhaseDueLemmas
 pub mod RegisteredLemmas
+pub mod ColumnLemmas
 pub mod FormTreeLemmas
+pub mod PhaseTreeLemmas
 pub mod OnePhaseLemmas
 pub mod CarryLemmas
 pub mod LeastLemmas

@@ -1,6 +1,6 @@
 -- The peaks of registers are those of the list.
-use Rattle.std.proofs.Common.{◌≡◌, ℕ, zero, suc, ◌+◌, ◌≤◌, List, [], ◌∷◌, ◌++◌, length, map, refl, sym, ◌∙◌, ap, arith, subst, Bool, true, false, cond, nat_eq, ℤ, ◌≤ℤ◌, Option, Some, None, slice_get, FitsSigned}
-use Rattle.std.proofs.lemmas.Bool.{eq-eqb}
+use Rattle.std.proofs.Common.{◌≡◌, ℕ, zero, suc, ◌+◌, ◌≤◌, List, [], ◌∷◌, ◌++◌, length, map, max, refl, sym, ◌∙◌, ap, arith, subst, Bool, true, false, cond, nat_eq, ℤ, ◌≤ℤ◌, Option, Some, None, slice_get, FitsSigned}
+use Rattle.std.proofs.lemmas.Bool.{eq-eqb, eqb-true}
 use Rattle.std.proofs.lemmas.Int.{ints}
 use Rattle.std.proofs.lemmas.List.{append-nil, map-append, append_assoc}
 use mir.Syntax.{w128}
@@ -26,7 +26,9 @@ use Rattle.stage_law.specs.declared.stage.Peak.{Peak}
 use Rattle.fir_pieces.specs.declared.held.Held.{Held}
 use Rattle.fir_pieces.specs.Listed.{every, numbered}
 use Rattle.fir_pieces.specs.Held.{IsFormWidth, held_sum}
-use Rattle.fir_pieces.specs.Peaks.{peak_at, peaks_at}
+use Rattle.fir_pieces.specs.Peaks.{peak_at, peaks_at, widest_peak, all_peaks_at}
+use Rattle.fir_pieces.specs.Registered.{numbered_all}
+use Rattle.fir_pieces.specs.Widest.{widest}
 use Rattle.fir_pieces.proofs.ListLemmas.{single}
 
 -- ---- ranges and widths
@@ -81,22 +83,31 @@ one_peak range name s w e some =
 named : (cells : List Cell) (group : ℕ) (name : Name) (w : ℕ) (node : Node) → IsRegister cells node.place group name w → (cell_at cells node.place).name ≡ Some name
 named cells group name w node r = ap (λ (c : Cell). c.name) (cell_at-is cells node.place r.cell r.there) ∙ r.named
 
-pub named-peak_at : (streams : Streams) (range : Telling) → TellsRanges streams range → (cells : List Cell) (group : ℕ) (kind : NameKind) (number w : ℕ) (node : Node) (own : Held) → IsRegister cells node.place group (name_of group kind number) w → IsRange streams (weights_of own.sum) every own.range
+-- the bits of a sum
+held_bits : (streams : Streams) (range : Telling) → TellsRanges streams range → (own : Held) → IsRange streams (weights_of own.sum) own.class own.range → (own.range ≡ range (weights_of own.sum) own.class) × (bits_for (range (weights_of own.sum) own.class) ≡ own.width)
+held_bits streams range tells own is =
+    let same : own.range ≡ range (weights_of own.sum) own.class = range_same streams (weights_of own.sum) own.class own.range (range (weights_of own.sum) own.class) is (tells.each (weights_of own.sum) own.class own.proper) in
+    (same, ap bits_for (sym same) ∙ bits_least own.range own.width own.least)
+
+-- a register's peak by its name
+named_one : (streams : Streams) (range : Telling) → TellsRanges streams range → (cells : List Cell) (name : Name) (node : Node) (own : Held) → (cell_at cells node.place).name ≡ Some name → IsRange streams (weights_of own.sum) own.class own.range
+    → map (named_peak cells) (peak_at node own) ≡ cond (nat_eq own.width 1) [] (record { name = Some name; sum = held_sum own; high = needs_high (range (weights_of own.sum) own.class) own.width } ∷ [])
+named_one streams range tells cells name node own is_named is =
+    let s = held_sum own in
+    map_if (nat_eq own.width 1) (named_peak cells) (record { register = node; sum = own.sum; class = own.class; lag = own.lag; high = needs_high own.range own.width })
+    ∙ ap (λ (n : Option Name). cond (nat_eq own.width 1) [] (record { name = n; sum = s; high = needs_high own.range own.width } ∷ [])) is_named
+    ∙ ap (λ (g : Range). cond (nat_eq own.width 1) [] (record { name = Some name; sum = s; high = needs_high g own.width } ∷ [])) (held_bits streams range tells own is).0
+
+pub named-peak_at : (streams : Streams) (range : Telling) → TellsRanges streams range → (cells : List Cell) (group : ℕ) (kind : NameKind) (number w : ℕ) (node : Node) (own : Held) → IsRegister cells node.place group (name_of group kind number) w → IsRange streams (weights_of own.sum) own.class own.range
     → map (named_peak cells) (peak_at node own) ≡ peak_of range group (single kind number (held_sum own))
 named-peak_at streams range tells cells group kind number w node own r is =
-    let s = held_sum own in
     let name = name_of group kind number in
-    let same : own.range ≡ range (weights_of own.sum) every = range_same streams (weights_of own.sum) every own.range (range (weights_of own.sum) every) is (tells.each (weights_of own.sum) every (omega arith)) in
-    let bits : bits_for (range (weights_of own.sum) every) ≡ own.width = ap bits_for (sym same) ∙ bits_least own.range own.width own.least in
-    map_if (nat_eq own.width 1) (named_peak cells) (record { register = node; sum = own.sum; class = every; lag = own.lag; high = needs_high own.range own.width })
-    ∙ ap (λ (n : Option Name). cond (nat_eq own.width 1) [] (record { name = n; sum = s; high = needs_high own.range own.width } ∷ [])) (named cells group name w node r)
-    ∙ ap (λ (g : Range). cond (nat_eq own.width 1) [] (record { name = Some name; sum = s; high = needs_high g own.width } ∷ [])) same
-    ∙ sym (one_peak range name s own.width bits own.least.positive)
+    named_one streams range tells cells name node own (named cells group name w node r) is ∙ sym (one_peak range name (held_sum own) own.width (held_bits streams range tells own is).1 own.least.positive)
 
 -- ---- all peaks
 
 pub named-peaks_at : (streams : Streams) (range : Telling) → TellsRanges streams range → (cells : List Cell) (group : ℕ) (kind : NameKind) (number : ℕ) (held : List Held) (nodes : List Node) → length nodes ≡ length held
-    → ((k : ℕ) (own : Held) → slice_get held k ≡ Some own → IsRange streams (weights_of own.sum) every own.range) → ((k : ℕ) (node : Node) → slice_get nodes k ≡ Some node → (w : ℕ) × IsRegister cells node.place group (name_of group kind (number + k)) w)
+    → ((k : ℕ) (own : Held) → slice_get held k ≡ Some own → IsRange streams (weights_of own.sum) own.class own.range) → ((k : ℕ) (node : Node) → slice_get nodes k ≡ Some node → (w : ℕ) × IsRegister cells node.place group (name_of group kind (number + k)) w)
     → map (named_peak cells) (peaks_at held nodes) ≡ peaks_of range group (numbered kind number (map held_sum held))
 named-peaks_at streams range tells cells group kind number [] nodes long is r = refl
 named-peaks_at streams range tells cells group kind number (own ∷ held) [] long is r = absurd (omega arith)
@@ -120,3 +131,60 @@ peaks_at-push [] [] own node is = absurd (cc)
 peaks_at-push [] (n ∷ nodes) own node is = let same : n ≡ node = cc in append-nil (peak_at n own) ∙ ap (λ (m : Node). peak_at m own) same
 peaks_at-push (first ∷ held) [] own node is = absurd (cc)
 peaks_at-push (first ∷ held) (n ∷ nodes) own node is = ap (λ (ps : List Peak). peak_at n first ++ ps) (peaks_at-push held nodes own node is) ∙ sym (append_assoc (peak_at n first) (peaks_at held nodes) (peak_at node own))
+
+-- ---- of several sums
+
+-- the greatest width is what any ranges tell
+pub widest_bits : (streams : Streams) (range : Telling) → TellsRanges streams range → (held : List Held) → ((j : ℕ) (own : Held) → slice_get held j ≡ Some own → IsRange streams (weights_of own.sum) own.class own.range) → bits_of range (map held_sum held) ≡ widest held
+widest_bits streams range tells [] is = refl
+widest_bits streams range tells (own ∷ held) is =
+    let first = (held_bits streams range tells own (is 0 own refl)).1 in
+    let rest = widest_bits streams range tells held (λ j. is (suc j)) in
+    ap (λ (n : ℕ). max n (bits_of range (map held_sum held))) first ∙ ap (max own.width) rest
+
+no_peak : (b : Bool) → cond b [] [] ≡ (let none : List NamedPeak = [] in none)
+no_peak true = refl
+no_peak false = refl
+
+-- the peak is that of the first sum that needs so many bits
+widest_named : (streams : Streams) (range : Telling) → TellsRanges streams range → (cells : List Cell) (name : Name) (node : Node) → (cell_at cells node.place).name ≡ Some name → (w : ℕ) (held : List Held) → ((j : ℕ) (own : Held) → slice_get held j ≡ Some own → IsRange streams (weights_of own.sum) own.class own.range)
+    → map (named_peak cells) (widest_peak node w held) ≡ cond (nat_eq w 1) [] (listed_peak range name w (needing range w (map held_sum held)))
+widest_named streams range tells cells name node is_named w [] is = sym (no_peak (nat_eq w 1))
+widest_named streams range tells cells name node is_named w (own ∷ held) is =
+    by_test (nat_eq own.width w) refl (widest_named streams range tells cells name node is_named w held (λ j. is (suc j)))
+    ∙ ap (λ (n : ℕ). cond (nat_eq w 1) [] (listed_peak range name w (cond (nat_eq n w) (Some (held_sum own)) (needing range w (map held_sum held))))) (sym (held_bits streams range tells own (is 0 own refl)).1)
+  where
+    by_test : (b : Bool) → nat_eq own.width w ≡ b → map (named_peak cells) (widest_peak node w held) ≡ cond (nat_eq w 1) [] (listed_peak range name w (needing range w (map held_sum held)))
+        → map (named_peak cells) (cond b (peak_at node own) (widest_peak node w held)) ≡ cond (nat_eq w 1) [] (listed_peak range name w (cond b (Some (held_sum own)) (needing range w (map held_sum held))))
+    by_test true e rest =
+        let same : own.width ≡ w = eqb-true own.width w e in
+        named_one streams range tells cells name node own is_named (is 0 own refl)
+        ∙ ap (λ (n : ℕ). cond (nat_eq n 1) [] (record { name = Some name; sum = held_sum own; high = needs_high (range (weights_of own.sum) own.class) n } ∷ [])) same
+    by_test false e rest = rest
+
+pub named-all_peaks_at : (streams : Streams) (range : Telling) → TellsRanges streams range → (cells : List Cell) (group : ℕ) (kind : NameKind) (number : ℕ) (all : List (List Held)) (nodes : List Node) → length nodes ≡ length all
+    → ((k : ℕ) (held : List Held) → slice_get all k ≡ Some held → (j : ℕ) (own : Held) → slice_get held j ≡ Some own → IsRange streams (weights_of own.sum) own.class own.range)
+    → ((k : ℕ) (node : Node) → slice_get nodes k ≡ Some node → (w : ℕ) × IsRegister cells node.place group (name_of group kind (number + k)) w)
+    → map (named_peak cells) (all_peaks_at all nodes) ≡ peaks_of range group (numbered_all kind number (map (map held_sum) all))
+named-all_peaks_at streams range tells cells group kind number [] nodes long is r = refl
+named-all_peaks_at streams range tells cells group kind number (held ∷ all) [] long is r = absurd (omega arith)
+named-all_peaks_at streams range tells cells group kind number (held ∷ all) (node ∷ nodes) long is r =
+    let first = r zero node refl in
+    let at : number + 0 ≡ number = omega arith in
+    let name = name_of group kind number in
+    let register = subst (λ (n : ℕ). IsRegister cells node.place group (name_of group kind n) first.0) at first.1 in
+    let own = widest_named streams range tells cells name node (named cells group name first.0 node register) (widest held) held (is zero held refl) in
+    let bits = widest_bits streams range tells held (is zero held refl) in
+    map-append (named_peak cells) (widest_peak node (widest held) held) (all_peaks_at all nodes)
+    ∙ ap (λ (ps : List NamedPeak). ps ++ map (named_peak cells) (all_peaks_at all nodes)) (own ∙ ap (λ (w : ℕ). cond (nat_eq w 1) [] (listed_peak range name w (needing range w (map held_sum held)))) (sym bits))
+    ∙ ap (λ (ps : List NamedPeak). peak_of range group (record { kind = kind; number = number; sums = map held_sum held }) ++ ps)
+    (named-all_peaks_at streams range tells cells group kind (suc number) all nodes (omega (arith, long)) (λ k. is (suc k))
+    (λ k found there. let next : number + suc k ≡ suc number + k = omega arith in let rest = r (suc k) found there in (rest.0, subst (λ (n : ℕ). IsRegister cells found.place group (name_of group kind n) rest.0) next rest.1)))
+
+-- one register more
+pub all_peaks_at-push : (all : List (List Held)) (nodes : List Node) (held : List Held) (node : Node) → slice_get nodes (length all) ≡ Some node → all_peaks_at (all ++ held ∷ []) nodes ≡ all_peaks_at all nodes ++ widest_peak node (widest held) held
+all_peaks_at-push [] [] held node is = absurd (cc)
+all_peaks_at-push [] (n ∷ nodes) held node is = let same : n ≡ node = cc in append-nil (widest_peak n (widest held) held) ∙ ap (λ (m : Node). widest_peak m (widest held) held) same
+all_peaks_at-push (first ∷ all) [] held node is = absurd (cc)
+all_peaks_at-push (first ∷ all) (n ∷ nodes) held node is =
+    ap (λ (ps : List Peak). widest_peak n (widest first) first ++ ps) (all_peaks_at-push all nodes held node is) ∙ sym (append_assoc (widest_peak n (widest first) first) (all_peaks_at all nodes) (widest_peak node (widest held) held))

@@ -1,6 +1,5 @@
 -- Registers over what is read of a window.
-use Rattle.std.proofs.Common.{◌≡◌, ℕ, suc, ◌+◌, ◌*◌, ◌<◌, ◌≤◌, List, [], ◌∷◌, ◌++◌, length, length-append, get_or, refl, sym, ◌∙◌, ap, arith, inl, inr, subst, Bool, true, false, ℤ, pos, ◌+ℤ◌, ◌-ℤ◌}
-use Rattle.std.proofs.lemmas.List.{map-append}
+use Rattle.std.proofs.Common.{◌≡◌, ℕ, zero, suc, ◌+◌, ◌*◌, ◌<◌, ◌≤◌, List, [], ◌∷◌, ◌++◌, length, length-append, map, get_or, refl, sym, ◌∙◌, ap, arith, inl, inr, subst, Bool, true, false, ℤ, pos, ◌+ℤ◌, ◌-ℤ◌, All, Some, slice_get}
 use Rattle.std.proofs.lemmas.Option.{slice_get-get_or, slice_get_within}
 use Rattle.mr_values.specs.Width.{FitsWidth}
 use Rattle.net_graph.specs.declared.cell.Cell.{Cell}
@@ -28,7 +27,7 @@ use Rattle.pipeline_balance.specs.Numbered.{IsRegister, IsCounted, IsTouched, Le
 use Rattle.pipeline_balance.specs.Shallow.{ArePlain}
 use Rattle.pipeline_balance.proofs.CostLemmas.{SameNamed-refl, SameNamed-trans, SameNamed-adds}
 use Rattle.pipeline_balance.proofs.DelayLemmas.{every_tick}
-use Rattle.pipeline_balance.proofs.NumberedLemmas.{free_adds, width-later, LeavesFree-refl, LeavesFree-trans, IsCounted-leaves, IsCounted-more, least_is}
+use Rattle.pipeline_balance.proofs.NumberedLemmas.{IsRegister-later, free_adds, width-later, LeavesFree-refl, LeavesFree-trans, IsCounted-leaves, IsCounted-more, least_is}
 use Rattle.pipeline_balance.proofs.ShallowLemmas.{shallow_more, plain_register, ArePlain-later, SumsPlain-add, SumsPlain-sub}
 use Rattle.pipeline_balance.proofs.ShapeLemmas.{KeepsShapes-refl, KeepsShapes-trans, KeepsShapes-adds}
 use Rattle.pipeline_balance.proofs.TakenLemmas.{Holds-later}
@@ -39,17 +38,17 @@ use Rattle.fir_pieces.specs.declared.reading.Reading.{Reading}
 use Rattle.fir_pieces.specs.declared.reading.Reading.TheVariants.{One, Sum, Difference}
 use Rattle.fir_pieces.specs.Cutting.{IsNarrowed, IsWideWindow, IsCutWindow}
 use Rattle.fir_pieces.specs.Form.{one_value, reading_form}
-use Rattle.fir_pieces.specs.Held.{IsFormWidth, IsHeld, AreHeld}
+use Rattle.fir_pieces.specs.Held.{IsFormWidth, AreHeld}
 use Rattle.fir_pieces.specs.Listed.{reading_sum, reading_sums}
 use Rattle.fir_pieces.specs.Peaks.{HoldsForm, IsDue}
-use Rattle.fir_pieces.specs.Readers.{IsDataKind, at_node, IsCombined, TakesNext, AddsReader, AddsReaders}
+use Rattle.fir_pieces.specs.Readers.{IsDataKind, at_node, IsCombined, TakesNext, TakesReading, AddsRegister, AddsRegisters, AddsReaders}
 use Rattle.fir_pieces.specs.Reading.{read, ReadsWithin, reading_adders, all_adders, terms_at}
 use Rattle.fir_pieces.proofs.DueLemmas.{HoldsForm-later, IsDue-later}
 use Rattle.fir_pieces.proofs.MomentLemmas.{HoldsForm-by}
 use Rattle.fir_pieces.proofs.HeldLemmas.{form_fits, taken_value-stream, weighted_sum-reading}
 use Rattle.fir_pieces.proofs.ReadingLemmas.{read_same, within_at}
 use Rattle.fir_pieces.proofs.UnitLemmas.{short_weights}
-use Rattle.fir_pieces.proofs.WidthsLemmas.{AreHeld-none, AreHeld-form}
+use Rattle.fir_pieces.proofs.WidthsLemmas.{AreHeld-at, slice_get_mapped, get_or-map}
 
 -- ---- kinds
 
@@ -202,16 +201,11 @@ TakesNext-taken {old} {new} {from} {to} {kind} {group} {number} of_data same lea
 
 -- ---- one register over what is read
 
-reader_width : {streams : Streams} (reading : Reading) (own : Held) → IsHeld streams (reading_form reading) 2 own → IsFormWidth streams (reading_form reading) own.width
-reader_width reading own h = record { range = own.range; is_range = h.is_range; least = own.least }
-
-pub AddsReader-of : {old mid new : NetView} {window : List Node} {kind : NameKind} {reading : Reading} {node to : Node} (streams : Streams) (own : Held) → AreCausal streams → 1 ≤ old.group → ReadsWithin (length window) reading → IsHeld streams (reading_form reading) 2 own
-    → IsCombined old mid window reading own.width node → TakesNext mid new kind node to → AddsReader streams old new window kind reading own to
-AddsReader-of {old} {mid} {new} {window} {kind} {reading} {node} {to} streams own causal data_group reads h c t = record {
+pub AddsRegister-of : {old mid new : NetView} {window : List Node} {kind : NameKind} {reading : Reading} {width : ℕ} {node to : Node} → 1 ≤ old.group → IsCombined old mid window reading width node → TakesNext mid new kind node to → AddsRegister old new window kind reading width to
+AddsRegister-of {old} {mid} {new} {window} {kind} {reading} {width} {node} {to} data_group c t = record {
   grows = Grows-trans c.grows t.grows;
   adders = t.adders.each old.group data_group ∙ c.adders;
   named_same = SameNamed-trans c.named t.named_same;
-  held = h;
   named = λ count n.
       let register = subst (λ (g : ℕ). IsRegister new.cells to.place g (name_of g kind count) (cell_at mid.cells node.place).width) same (t.named count (mid_count count n)) in
       subst (λ (w : ℕ). IsRegister new.cells to.place old.group (name_of old.group kind count) w) c.wide register;
@@ -220,22 +214,11 @@ AddsReader-of {old} {mid} {new} {window} {kind} {reading} {node} {to} streams ow
   linear = KeepsShapes-trans c.linear t.linear;
   shallow = λ s plain. shallow_more old.group data_group t.grows t.adders (c.shallow s plain);
   plain = subst (λ (g : ℕ). IsPlain new.cells g to.place) same t.plain;
-  wide = (t.wide.0, t.wide.1 ∙ c.wide);
-  holds = λ from positive w.
-      HoldsForm-by streams new.cells from (reading_form reading) 1 to positive
-      (λ cut law x v s is run carried tick soon. let first : tick ≡ 0 = omega arith in ap (λ (n : ℕ). v n to.place) first ∙ t.starts cut law x v run)
-      (λ cut law x v s is run carried tick count taken_is.
-      let mid_run = t.grows.extends.runs cut law x v run in
-      let old_run = c.grows.extends.runs cut law x v mid_run in
-      let f : ℕ → ℤ = λ i. s (pos count -ℤ pos 1 -ℤ pos i) in
-      let taken' : HasTaken w.taken.period w.taken.offset count tick = subst (λ (p : ℕ). HasTaken p w.taken.offset count tick) (sym w.period) (subst (λ (o : ℕ). HasTaken from.period o count tick) (sym w.offset) taken_is) in
-      let values = λ (i : ℕ) (inside : i < length window).
-      (w.holds i (get_or window i (record { place = 0 })) (slice_get-get_or window i (record { place = 0 }) inside)).holds cut law x v old_run tick count taken'
-      ∙ taken_value-stream (shown v w.taken) s (w.carries cut law x v s is old_run carried) (λ n. causal.each s is n) count i in
-      let now = read_same (length window) reading (at_node v tick window) f reads values ∙ sym (weighted_sum-reading reading f) in
-      let fits : FitsWidth own.width (read reading (at_node v tick window)) = subst (FitsWidth own.width) (sym now) (form_fits streams causal (reading_form reading) own.width (reader_width reading own h) s is count) in
-      let next : tick + 1 ≡ suc tick = omega arith in
-      ap (λ (n : ℕ). v n to.place) next ∙ t.steps cut law x v run tick ∙ c.keeps cut law x v mid_run tick fits ∙ now);
+  takes = record {
+    wide = (t.wide.0, t.wide.1 ∙ c.wide);
+    starts = t.starts;
+    steps = λ cut law x v run tick fits. t.steps cut law x v run tick ∙ c.keeps cut law x v (t.grows.extends.runs cut law x v run) tick fits;
+  };
 }
   where
     same : mid.group ≡ old.group
@@ -244,32 +227,37 @@ AddsReader-of {old} {mid} {new} {window} {kind} {reading} {node} {to} streams ow
     mid_count : (count : ℕ) → IsCounted old.cells old.group kind count → IsCounted mid.cells mid.group kind count
     mid_count count n = subst (λ (g : ℕ). IsCounted mid.cells g kind count) (sym same) (IsCounted-leaves old.group kind count c.grows.extends c.names (λ number no. no) n)
 
+pub TakesReading-later : {old new : List Cell} {window : List Node} {reading : Reading} {width : ℕ} {node : Node} → Extends old new → TakesReading old window reading width node → TakesReading new window reading width node
+TakesReading-later {old} {new} {window} {reading} {width} {node} e t = record {
+  wide = let inside = t.wide.0 in let longer = e.longer in (omega (arith, inside, longer), width-later old new node.place e inside ∙ t.wide.1);
+  starts = λ cut law x v run. t.starts cut law x v (e.runs cut law x v run);
+  steps = λ cut law x v run. t.steps cut law x v (e.runs cut law x v run);
+}
+
 -- ---- one after another
 
-pub AddsReaders-none : (streams : Streams) (net : NetView) (window : List Node) (kind : NameKind) → AddsReaders streams net net window kind [] [] []
-AddsReaders-none streams net window kind = record {
+pub AddsRegisters-none : (net : NetView) (window : List Node) (kind : NameKind) (widths : List ℕ) → AddsRegisters net net window kind [] widths []
+AddsRegisters-none net window kind widths = record {
   grows = Grows-refl net;
   many = refl;
   adders = omega arith;
   named_same = SameNamed-refl net.cells;
-  held_are = AreHeld-none streams;
   counted = λ count c. let same : count ≡ count + 0 = omega arith in subst (λ (n : ℕ). IsCounted net.cells net.group kind n) same c;
   names = LeavesFree-refl net.cells (IsTouched net.group kind);
   linear = KeepsShapes-refl net.cells;
   shallow = λ s plain. s;
   plain = λ bound. record { each = λ k node is. absurd (cc) };
-  wide = λ k r node is. absurd (cc);
-  shows = λ from positive w k r node is. absurd (cc);
-  each = λ from positive w count k r node c is. absurd (cc);
+  takes = λ k r node is. absurd (cc);
+  named = λ count k node c is. absurd (cc);
 }
 
 all_adders-push : (rs : List Reading) (r : Reading) → all_adders (rs ++ r ∷ []) ≡ all_adders rs + reading_adders r
 all_adders-push [] r = omega arith
 all_adders-push (s ∷ rs) r = let rest = all_adders-push rs r in omega arith
 
-pub AddsReaders-push : {old mid new : NetView} {window nodes : List Node} {kind : NameKind} {readings : List Reading} {held : List Held} {to : Node} (streams : Streams) (r : Reading) (own : Held) → ReadsWithin (length window) r → AddsReaders streams old mid window kind readings held nodes
-    → AddsReader streams mid new window kind r own to → AddsReaders streams old new window kind (readings ++ r ∷ []) (held ++ own ∷ []) (nodes ++ to ∷ [])
-AddsReaders-push {old} {mid} {new} {window} {nodes} {kind} {readings} {held} {to} streams r own reads p a = record {
+pub AddsRegisters-push : {old mid new : NetView} {window nodes : List Node} {kind : NameKind} {readings : List Reading} {widths : List ℕ} {to : Node} (r : Reading) → AddsRegisters old mid window kind readings widths nodes → AddsRegister mid new window kind r (get_or widths (length readings) 0) to
+    → AddsRegisters old new window kind (readings ++ r ∷ []) widths (nodes ++ to ∷ [])
+AddsRegisters-push {old} {mid} {new} {window} {nodes} {kind} {readings} {widths} {to} r p a = record {
   grows = Grows-trans p.grows a.grows;
   many = let first = p.many in let x = length-append nodes (to ∷ []) in let y = length-append readings (r ∷ []) in omega (arith, first, x, y);
   adders =
@@ -277,7 +265,6 @@ AddsReaders-push {old} {mid} {new} {window} {nodes} {kind} {readings} {held} {to
       let now : adders_in old.group new.cells ≡ adders_in old.group mid.cells + reading_adders r = subst (λ (g : ℕ). adders_in g new.cells ≡ adders_in g mid.cells + reading_adders r) same a.adders in
       omega (arith, before, now, all_adders-push readings r);
   named_same = SameNamed-trans p.named_same a.named_same;
-  held_are = subst (λ (sums : List _). AreHeld streams sums (held ++ own ∷ [])) (sym (map-append reading_sum readings (r ∷ []))) (AreHeld-form streams (reading_sums readings) held (held ++ own ∷ []) (reading_form r) 2 own p.held_are a.held refl);
   counted = λ count c.
       let y = length-append readings (r ∷ []) in
       let next : suc (count + length readings) ≡ count + length (readings ++ r ∷ []) = omega (arith, y) in
@@ -294,55 +281,30 @@ AddsReaders-push {old} {mid} {new} {window} {nodes} {kind} {readings} {held} {to
       | inr last ↦ subst (λ (m : Node). IsPlain new.cells old.group m.place) (sym last.1) (subst (λ (g : ℕ). IsPlain new.cells g to.place) same a.plain)
     ];
   };
-  wide = λ k found node is there.
+  takes = λ k found node is there.
       let many = p.many in
       elim (slice_get_push_cases readings r k found is) [
         | inl before ↦ elim (slice_get_push_cases nodes to k node there) [
-          | inl here ↦
-              let known = p.wide k found node before here in
-              let inside = known.0 in
-              let longer = a.grows.extends.longer in
-              (omega arith, subst (IsFormWidth streams (reading_form found)) (sym (width-later mid.cells new.cells node.place a.grows.extends inside)) known.1)
+          | inl here ↦ TakesReading-later a.grows.extends (p.takes k found node before here)
           | inr last ↦ absurd (let inside = slice_get_within readings k found before in let at = last.0 in omega (arith, inside, at, many))
         ]
-        | inr own_reading ↦ elim (slice_get_push_cases nodes to k node there) [
-          | inl here ↦ absurd (let inside = slice_get_within nodes k node here in let at = own_reading.0 in omega (arith, inside, at, many))
+        | inr own ↦ elim (slice_get_push_cases nodes to k node there) [
+          | inl here ↦ absurd (let inside = slice_get_within nodes k node here in let at = own.0 in omega (arith, inside, at, many))
           | inr last ↦
-              subst (λ (m : Node). (m.place < length new.cells) × IsFormWidth streams (reading_form found) (cell_at new.cells m.place).width) (sym last.1)
-              (subst (λ (x : Reading). (to.place < length new.cells) × IsFormWidth streams (reading_form x) (cell_at new.cells to.place).width) (sym own_reading.1)
-              (a.wide.0, subst (IsFormWidth streams (reading_form r)) (sym a.wide.1) (reader_width r own a.held)))
+              subst (λ (m : Node). TakesReading new.cells window found (get_or widths k 0) m) (sym last.1)
+              (subst (λ (x : Reading). TakesReading new.cells window x (get_or widths k 0) to) (sym own.1)
+              (subst (λ (n : ℕ). TakesReading new.cells window r (get_or widths n 0) to) (sym own.0) a.takes))
         ]
       ];
-  shows = λ from positive w k found node is there.
-      let many = p.many in
-      elim (slice_get_push_cases readings r k found is) [
-        | inl before ↦ elim (slice_get_push_cases nodes to k node there) [
-          | inl here ↦ HoldsForm-later a.grows.extends (p.shows from positive w k found node before here)
-          | inr last ↦ absurd (let inside = slice_get_within readings k found before in let at = last.0 in omega (arith, inside, at, many))
-        ]
-        | inr own_reading ↦ elim (slice_get_push_cases nodes to k node there) [
-          | inl here ↦ absurd (let inside = slice_get_within nodes k node here in let at = own_reading.0 in omega (arith, inside, at, many))
-          | inr last ↦
-              subst (λ (m : Node). HoldsForm streams new.cells from (reading_form found) 1 m) (sym last.1)
-              (subst (λ (x : Reading). HoldsForm streams new.cells from (reading_form x) 1 to) (sym own_reading.1) (a.holds from positive (IsCutWindow-later streams p.grows.extends w)))
-        ]
-      ];
-  each = λ from positive w count k found node c is there.
-      let many = p.many in
-      elim (slice_get_push_cases readings r k found is) [
-        | inl before ↦ elim (slice_get_push_cases nodes to k node there) [
-          | inl here ↦ IsDue-later a.grows.extends (p.each from positive w count k found node c before here)
-          | inr last ↦ absurd (let inside = slice_get_within readings k found before in let at = last.0 in omega (arith, inside, at, many))
-        ]
-        | inr own_reading ↦ elim (slice_get_push_cases nodes to k node there) [
-          | inl here ↦ absurd (let inside = slice_get_within nodes k node here in let at = own_reading.0 in omega (arith, inside, at, many))
-          | inr last ↦
-              let at : count + length readings ≡ count + k = ap (λ (n : ℕ). count + n) (sym own_reading.0) in
-              subst (λ (m : Node). IsDue streams new.cells from (length window) 1 old.group (name_of old.group kind (count + k)) (reading_sum found) m) (sym last.1)
-              (subst (λ (x : Reading). IsDue streams new.cells from (length window) 1 old.group (name_of old.group kind (count + k)) (reading_sum x) to) (sym own_reading.1)
-              (subst (λ (n : ℕ). IsDue streams new.cells from (length window) 1 old.group (name_of old.group kind n) (reading_sum r) to) at (due from positive w count c)))
-        ]
-      ];
+  named = λ count k node c there. elim (slice_get_push_cases nodes to k node there) [
+    | inl here ↦ IsRegister-later a.grows.extends (p.named count k node c here)
+    | inr last ↦
+        let many = p.many in
+        let at : length readings ≡ k = sym (last.0 ∙ many) in
+        subst (λ (m : Node). IsRegister new.cells m.place old.group (name_of old.group kind (count + k)) (get_or widths k 0)) (sym last.1)
+        (subst (λ (n : ℕ). IsRegister new.cells to.place old.group (name_of old.group kind (count + n)) (get_or widths n 0)) at
+        (subst (λ (g : ℕ). IsRegister new.cells to.place g (name_of g kind (count + length readings)) (get_or widths (length readings) 0)) same (a.named (count + length readings) (mid_count count c))))
+  ];
 }
   where
     same : mid.group ≡ old.group
@@ -351,15 +313,66 @@ AddsReaders-push {old} {mid} {new} {window} {nodes} {kind} {readings} {held} {to
     mid_count : (count : ℕ) → IsCounted old.cells old.group kind count → IsCounted mid.cells mid.group kind (count + length readings)
     mid_count count c = subst (λ (g : ℕ). IsCounted mid.cells g kind (count + length readings)) (sym same) (p.counted count c)
 
-    due : (from : Stream) → 1 ≤ from.period → IsCutWindow streams old.cells from window → (count : ℕ) → IsCounted old.cells old.group kind count → IsDue streams new.cells from (length window) 1 old.group (name_of old.group kind (count + length readings)) (reading_sum r) to
-    due from positive w count c = record {
-      width = own.width;
-      register = subst (λ (g : ℕ). IsRegister new.cells to.place g (name_of g kind (count + length readings)) own.width) same (a.named (count + length readings) (mid_count count c));
-      is_class = refl;
-      short = short_weights (length window) false (terms_at r one_value) (within_at (length window) r one_value reads);
-      ticks = 1;
-      is_lag = refl;
-      soon = omega arith;
-      holds = a.holds from positive (IsCutWindow-later streams p.grows.extends w);
-      least = reader_width r own a.held;
-    }
+-- ---- of the least widths for what they hold
+
+reader_holds : {cells : List Cell} {window : List Node} {reading : Reading} {width : ℕ} {to : Node} (streams : Streams) → AreCausal streams → ReadsWithin (length window) reading → IsFormWidth streams (reading_form reading) width → TakesReading cells window reading width to
+    → (from : Stream) → 1 ≤ from.period → IsCutWindow streams cells from window → HoldsForm streams cells from (reading_form reading) 1 to
+reader_holds {cells} {window} {reading} {width} {to} streams causal reads least takes from positive w =
+    HoldsForm-by streams cells from (reading_form reading) 1 to positive
+    (λ cut law x v s is run carried tick soon. let first : tick ≡ 0 = omega arith in ap (λ (n : ℕ). v n to.place) first ∙ takes.starts cut law x v run)
+    (λ cut law x v s is run carried tick count taken_is.
+    let f : ℕ → ℤ = λ i. s (pos count -ℤ pos 1 -ℤ pos i) in
+    let taken' : HasTaken w.taken.period w.taken.offset count tick = subst (λ (p : ℕ). HasTaken p w.taken.offset count tick) (sym w.period) (subst (λ (o : ℕ). HasTaken from.period o count tick) (sym w.offset) taken_is) in
+    let values = λ (i : ℕ) (inside : i < length window).
+    (w.holds i (get_or window i (record { place = 0 })) (slice_get-get_or window i (record { place = 0 }) inside)).holds cut law x v run tick count taken'
+    ∙ taken_value-stream (shown v w.taken) s (w.carries cut law x v s is run carried) (λ n. causal.each s is n) count i in
+    let now = read_same (length window) reading (at_node v tick window) f reads values ∙ sym (weighted_sum-reading reading f) in
+    let fits : FitsWidth width (read reading (at_node v tick window)) = subst (FitsWidth width) (sym now) (form_fits streams causal (reading_form reading) width least s is count) in
+    let next : tick + 1 ≡ suc tick = omega arith in
+    ap (λ (n : ℕ). v n to.place) next ∙ takes.steps cut law x v run tick fits ∙ now)
+
+pub AddsReaders-of : {old new : NetView} {window nodes : List Node} {kind : NameKind} {readings : List Reading} {widths : List ℕ} {held : List Held} (streams : Streams) → AreCausal streams → All (ReadsWithin (length window)) readings → AreHeld streams (reading_sums readings) held
+    → widths ≡ map (λ (own : Held). own.width) held → AddsRegisters old new window kind readings widths nodes → AddsReaders streams old new window kind readings held nodes
+AddsReaders-of {old} {new} {window} {nodes} {kind} {readings} {widths} {held} streams causal reads h are a = record {
+  grows = a.grows;
+  many = a.many;
+  adders = a.adders;
+  named_same = a.named_same;
+  held_are = h;
+  counted = a.counted;
+  names = a.names;
+  linear = a.linear;
+  shallow = a.shallow;
+  plain = a.plain;
+  wide = λ k r node is there. let t = a.takes k r node is there in (t.wide.0, subst (IsFormWidth streams (reading_form r)) (sym t.wide.1) (least k r is));
+  shows = λ from positive w k r node is there. holds from positive w k r node is there;
+  each = λ from positive w count k r node c is there. record {
+    width = get_or widths k 0;
+    register = a.named count k node c there;
+    is_class = refl;
+    short = short_weights (length window) false (terms_at r one_value) (within_at (length window) r one_value (inside k r is));
+    ticks = 1;
+    is_lag = refl;
+    soon = omega arith;
+    holds = holds from positive w k r node is there;
+    least = least k r is;
+  };
+}
+  where
+    inside : (k : ℕ) (r : Reading) → slice_get readings k ≡ Some r → ReadsWithin (length window) r
+    inside k r is =
+        let same : get_or readings k (One 0) ≡ r = same_some readings k r is in
+        subst (ReadsWithin (length window)) same (reads k (One 0) (slice_get_within readings k r is))
+      where
+        same_some : (rs : List Reading) (n : ℕ) (x : Reading) → slice_get rs n ≡ Some x → get_or rs n (One 0) ≡ x
+        same_some [] n x e = absurd (cc)
+        same_some (y ∷ rs) zero x e = cc
+        same_some (y ∷ rs) (suc n) x e = same_some rs n x e
+
+    least : (k : ℕ) (r : Reading) → slice_get readings k ≡ Some r → IsFormWidth streams (reading_form r) (get_or widths k 0)
+    least k r is =
+        let own = AreHeld-at streams h k (reading_sum r) (slice_get_mapped reading_sum readings k r is) in
+        subst (IsFormWidth streams (reading_form r)) (sym (ap (λ (ws : List ℕ). get_or ws k 0) are ∙ get_or-map (λ (one : Held). one.width) held k own.0 own.1)) own.2
+
+    holds : (from : Stream) → 1 ≤ from.period → IsCutWindow streams old.cells from window → (k : ℕ) (r : Reading) (node : Node) → slice_get readings k ≡ Some r → slice_get nodes k ≡ Some node → HoldsForm streams new.cells from (reading_form r) 1 node
+    holds from positive w k r node is there = reader_holds streams causal (inside k r is) (least k r is) (a.takes k r node is there) from positive (IsCutWindow-later streams a.grows.extends w)

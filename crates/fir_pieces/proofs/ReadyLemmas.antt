@@ -17,7 +17,9 @@ use Rattle.stage_law.specs.Streams.{Streams, HasRoom, magnitudes}
 use Rattle.fir_pieces.specs.declared.reading.Reading.{Reading}
 use Rattle.fir_pieces.specs.declared.reading.Reading.TheVariants.{One, Sum, Difference}
 use Rattle.fir_pieces.specs.Form.{form_of, one_value, reading_form}
-use Rattle.fir_pieces.specs.Held.{AreSmall, IsFormWidth}
+use Rattle.stage_law.specs.declared.ranges.Class.{Class}
+use Rattle.fir_pieces.specs.Held.{AreSmall, IsClassWidth}
+use Rattle.fir_pieces.specs.Listed.{every}
 use Rattle.fir_pieces.specs.Placed.{all_minus, leaf_of, powers}
 use Rattle.fir_pieces.specs.Reading.{read, reading_at, spread, terms_at}
 use Rattle.fir_pieces.specs.Sums.{IsReady}
@@ -27,8 +29,8 @@ use Rattle.fir_pieces.proofs.HeldLemmas.{weighted_sum-form, weighted_sum-reading
 use Rattle.fir_pieces.proofs.ReadingLemmas.{shown_by, values_in, powers-terms_at, each_spread}
 
 -- the width of sums that have room when they are shifted
-pub reached_room : (streams : Streams) (form : List ℤ) (w place room : ℕ) → IsFormWidth streams form w → ((v : Sequence) → streams v → (k : ℕ) → unsigned_abs (filter form v (pos k)) * 2 ^ place ≤ 2 ^ room) → place ≤ 90 → 90 ≤ room → w + place ≤ room + 2
-reached_room streams form w place room f each low much =
+pub reached_room : (streams : Streams) (class : Class) (form : List ℤ) (w place room : ℕ) → IsClassWidth streams class form w → ((v : Sequence) → streams v → (k : ℕ) → unsigned_abs (filter form v (pos k)) * 2 ^ place ≤ 2 ^ room) → place ≤ 90 → 90 ≤ room → w + place ≤ room + 2
+reached_room streams class form w place room f each low much =
     let a = f.is_range.low_reached in
     let b = f.is_range.high_reached in
     let first : unsigned_abs f.range.lo * 2 ^ place ≤ 2 ^ room = subst (λ (z : ℤ). unsigned_abs z * 2 ^ place ≤ 2 ^ room) a.is (each a.stream a.is_one a.index) in
@@ -44,8 +46,8 @@ pub record IsNoWider (streams : Streams) (form : List ℤ) (width : ℕ) : Type 
   pub room : (place room : ℕ) → ((v : Sequence) → streams v → (k : ℕ) → unsigned_abs (filter form v (pos k)) * 2 ^ place ≤ 2 ^ room) → place ≤ 90 → 90 ≤ room → width + place ≤ room + 2
 
 -- as the least one
-pub IsNoWider-least : (streams : Streams) (form : List ℤ) (width : ℕ) → IsFormWidth streams form width → IsNoWider streams form width
-IsNoWider-least streams form width f = record { positive = f.least.positive; room = λ place room each low much. reached_room streams form width place room f each low much }
+pub IsNoWider-least : (streams : Streams) (class : Class) (form : List ℤ) (width : ℕ) → IsClassWidth streams class form width → IsNoWider streams form width
+IsNoWider-least streams class form width f = record { positive = f.least.positive; room = λ place room each low much. reached_room streams class form width place room f each low much }
 
 some_value : (r : Reading) → 1 ≤ values_in r
 some_value (One i) = omega arith
@@ -83,7 +85,7 @@ module _ (streams : Streams) (readings : List Reading) (terms : List Term) (gain
   short : All (λ (t : Term). t.place ≤ 90) terms
   short = All-weaker (λ (t : Term). values_in (reading_at readings t.index) * 2 ^ t.place ≤ 2 * gain) (λ (t : Term). t.place ≤ 90) short_place terms counted
 
-  small_sums : AreSmall streams readings terms
+  pub small_sums : AreSmall streams readings terms
   small_sums = record {
     places = places;
     short = short;
@@ -100,16 +102,61 @@ module _ (streams : Streams) (readings : List Reading) (terms : List Term) (gain
       let after = room.after in
       omega (arith, bound, after)
 
-  root_room : (width : ℕ) → IsFormWidth streams (form_of readings terms) width → width ≤ 127
-  root_room width w =
+  -- the width of the root's sums at the values of any class has room for a sign
+  pub root_room : (class : Class) (width : ℕ) → IsClassWidth streams class (form_of readings terms) width → width ≤ 127
+  root_room class width w =
       let each : (v : Sequence) → streams v → (k : ℕ) → unsigned_abs (filter (form_of readings terms) v (pos k)) * 2 ^ 0 ≤ 2 ^ 125 =
       λ v is k.
       let f : ℕ → ℤ = λ i. v (pos k -ℤ pos i) in
       let same : unsigned_abs (filter (form_of readings terms) v (pos k)) ≡ unsigned_abs (term_sum (shown_by readings f) terms) = ap unsigned_abs (weighted_sum-form readings terms f) ∙ abs_signed (all_minus terms) (term_sum (shown_by readings f) terms) in
       let bound = sum_bound v is k in
       omega (arith, same, bound) in
-      let narrow = reached_room streams (form_of readings terms) width 0 125 w each (omega arith) (omega arith) in
+      let narrow = reached_room streams class (form_of readings terms) width 0 125 w each (omega arith) (omega arith) in
       omega (arith, narrow)
+
+  -- a node that is no wider than what it shows has room for the shifts of its terms
+  pub leaf_room : (t : Term) → values_in (reading_at readings t.index) * 2 ^ t.place ≤ 2 * gain → (width : ℕ) → IsNoWider streams (reading_form (reading_at readings t.index)) width → width + t.place ≤ 128
+  leaf_room t power width narrow =
+      let r = reading_at readings t.index in
+      let each : (v : Sequence) → streams v → (k : ℕ) → unsigned_abs (filter (reading_form r) v (pos k)) * 2 ^ t.place ≤ 2 ^ 126 =
+      λ v is k.
+      let f : ℕ → ℤ = λ i. v (pos k -ℤ pos i) in
+      let same : unsigned_abs (filter (reading_form r) v (pos k)) ≡ unsigned_abs (read r f) = ap unsigned_abs (weighted_sum-reading r f) in
+      let bound = read_within r f room.most (λ i. room.within.each v is (pos k -ℤ pos i)) in
+      let scaled : unsigned_abs (filter (reading_form r) v (pos k)) * 2 ^ t.place ≤ values_in r * room.most * 2 ^ t.place = mul-le-mul_right (2 ^ t.place) (omega (arith, same, bound)) in
+      let turned : values_in r * room.most * 2 ^ t.place ≡ room.most * (values_in r * 2 ^ t.place) = omega arith in
+      let more : room.most * (values_in r * 2 ^ t.place) ≤ room.most * (2 * gain) = mul-le-mul_left room.most power in
+      let whole = double_room in
+      omega (arith, scaled, turned, more, whole) in
+      let much = narrow.room t.place 126 each (short_place t power) (omega arith) in
+      omega (arith, much)
+
+  -- and for a sign, where it is the only one
+  pub negated_room : (t : Term) → t ∷ [] ≡ terms → t.place ≤ 90 → (width : ℕ) → IsNoWider streams (reading_form (reading_at readings t.index)) width → width + t.place ≤ 127
+  negated_room t e is_short width narrow =
+      let r = reading_at readings t.index in
+      let each : (v : Sequence) → streams v → (k : ℕ) → unsigned_abs (filter (reading_form r) v (pos k)) * 2 ^ t.place ≤ 2 ^ 125 =
+      λ v is k.
+      let f : ℕ → ℤ = λ i. v (pos k -ℤ pos i) in
+      let same : unsigned_abs (filter (reading_form r) v (pos k)) ≡ unsigned_abs (read r f) = ap unsigned_abs (weighted_sum-reading r f) in
+      let power = abs_with_sign t.negative (2 ^ t.place) in
+      let product : unsigned_abs (with_sign t.negative (2 ^ t.place) *ℤ read r f) ≡ unsigned_abs (with_sign t.negative (2 ^ t.place)) * unsigned_abs (read r f) = unsigned_abs-mul (with_sign t.negative (2 ^ t.place)) (read r f) in
+      let sum_is : unsigned_abs (with_sign t.negative (2 ^ t.place) *ℤ read r f) ≡ unsigned_abs (term_sum (shown_by readings f) terms) = ap unsigned_abs (sym (alone (with_sign t.negative (2 ^ t.place) *ℤ read r f))) ∙ ap (λ (us : List Term). unsigned_abs (term_sum (shown_by readings f) us)) e in
+      let bound = sum_bound v is k in
+      let first : unsigned_abs (filter (reading_form r) v (pos k)) * 2 ^ t.place ≡ unsigned_abs (read r f) * 2 ^ t.place = ap (λ (n : ℕ). n * 2 ^ t.place) same in
+      let second : unsigned_abs (with_sign t.negative (2 ^ t.place)) * unsigned_abs (read r f) ≡ 2 ^ t.place * unsigned_abs (read r f) = ap (λ (n : ℕ). n * unsigned_abs (read r f)) power in
+      omega (arith, first, second, product, sum_is, bound) in
+      let much = narrow.room t.place 125 each is_short (omega arith) in
+      omega (arith, much)
+    where
+      alone : (z : ℤ) → z +ℤ pos 0 ≡ z
+      alone z = omega (arith, ints)
+
+  pub term_powers : All (λ (t : Term). values_in (reading_at readings t.index) * 2 ^ t.place ≤ 2 * gain) terms
+  term_powers = counted
+
+  pub term_places : All (λ (t : Term). t.place ≤ 90) terms
+  term_places = short
 
   module _ (cells : List Cell) (nodes : List Node) (many : length nodes ≡ length readings)
       (wide : (k : ℕ) (node : Node) → slice_get nodes k ≡ Some node → (node.place < length cells) × IsNoWider streams (reading_form (reading_at readings k)) (cell_at cells node.place).width) where
@@ -124,19 +171,7 @@ module _ (streams : Streams) (readings : List Reading) (terms : List Term) (gain
     all_leaves = both (λ (t : Term). t.index < length readings) (λ (t : Term). values_in (reading_at readings t.index) * 2 ^ t.place ≤ 2 * gain) (λ (t : Term). IsLeaf cells (leaf_of nodes t))
         (λ t h power.
         let node = node_of t h in
-        let r = reading_at readings t.index in
-        let width = (cell_at cells (leaf_of nodes t).node.place).width in
-        let each : (v : Sequence) → streams v → (k : ℕ) → unsigned_abs (filter (reading_form r) v (pos k)) * 2 ^ t.place ≤ 2 ^ 126 =
-        λ v is k.
-        let f : ℕ → ℤ = λ i. v (pos k -ℤ pos i) in
-        let same : unsigned_abs (filter (reading_form r) v (pos k)) ≡ unsigned_abs (read r f) = ap unsigned_abs (weighted_sum-reading r f) in
-        let bound = read_within r f room.most (λ i. room.within.each v is (pos k -ℤ pos i)) in
-        let scaled : unsigned_abs (filter (reading_form r) v (pos k)) * 2 ^ t.place ≤ values_in r * room.most * 2 ^ t.place = mul-le-mul_right (2 ^ t.place) (omega (arith, same, bound)) in
-        let turned : values_in r * room.most * 2 ^ t.place ≡ room.most * (values_in r * 2 ^ t.place) = omega arith in
-        let more : room.most * (values_in r * 2 ^ t.place) ≤ room.most * (2 * gain) = mul-le-mul_left room.most power in
-        let whole = double_room in
-        omega (arith, scaled, turned, more, whole) in
-        let much = node.1.room t.place 126 each (short_place t power) (omega arith) in
+        let much = leaf_room t power (cell_at cells (leaf_of nodes t).node.place).width node.1 in
         record { within = node.0; wide = node.1.positive; shifts = omega (arith, much) })
         terms places counted
 
@@ -148,24 +183,8 @@ module _ (streams : Streams) (readings : List Reading) (terms : List Term) (gain
         let is_place : t.index < length readings = All-head (λ (u : Term). u.index < length readings) t [] (subst (λ (us : List Term). All (λ (u : Term). u.index < length readings) us) (sym e) places) in
         let is_short : t.place ≤ 90 = All-head (λ (u : Term). u.place ≤ 90) t [] (subst (λ (us : List Term). All (λ (u : Term). u.place ≤ 90) us) (sym e) short) in
         let node = node_of t is_place in
-        let r = reading_at readings t.index in
-        let width = (cell_at cells (leaf_of nodes t).node.place).width in
-        let each : (v : Sequence) → streams v → (k : ℕ) → unsigned_abs (filter (reading_form r) v (pos k)) * 2 ^ t.place ≤ 2 ^ 125 =
-        λ v is k.
-        let f : ℕ → ℤ = λ i. v (pos k -ℤ pos i) in
-        let same : unsigned_abs (filter (reading_form r) v (pos k)) ≡ unsigned_abs (read r f) = ap unsigned_abs (weighted_sum-reading r f) in
-        let power = abs_with_sign t.negative (2 ^ t.place) in
-        let product : unsigned_abs (with_sign t.negative (2 ^ t.place) *ℤ read r f) ≡ unsigned_abs (with_sign t.negative (2 ^ t.place)) * unsigned_abs (read r f) = unsigned_abs-mul (with_sign t.negative (2 ^ t.place)) (read r f) in
-        let sum_is : unsigned_abs (with_sign t.negative (2 ^ t.place) *ℤ read r f) ≡ unsigned_abs (term_sum (shown_by readings f) terms) = ap unsigned_abs (sym (alone (with_sign t.negative (2 ^ t.place) *ℤ read r f))) ∙ ap (λ (us : List Term). unsigned_abs (term_sum (shown_by readings f) us)) e in
-        let bound = sum_bound v is k in
-        let first : unsigned_abs (filter (reading_form r) v (pos k)) * 2 ^ t.place ≡ unsigned_abs (read r f) * 2 ^ t.place = ap (λ (n : ℕ). n * 2 ^ t.place) same in
-        let second : unsigned_abs (with_sign t.negative (2 ^ t.place)) * unsigned_abs (read r f) ≡ 2 ^ t.place * unsigned_abs (read r f) = ap (λ (n : ℕ). n * unsigned_abs (read r f)) power in
-        omega (arith, first, second, product, sum_is, bound) in
-        let much = node.1.room t.place 125 each is_short (omega arith) in
+        let much = negated_room t e is_short (cell_at cells (leaf_of nodes t).node.place).width node.1 in
         All-cons (λ (x : Term). IsNegatable cells (leaf_of nodes x)) t [] (record { room = omega (arith, much) }) (All-nil (λ (x : Term). IsNegatable cells (leaf_of nodes x)))
-      where
-        alone : (z : ℤ) → z +ℤ pos 0 ≡ z
-        alone z = omega (arith, ints)
 
     pub tree_ready : (levels : ℕ) → length terms ≤ 2 ^ levels → levels ≤ 31 → IsReady streams cells nodes readings terms levels
     tree_ready levels deep low = record {
@@ -175,5 +194,5 @@ module _ (streams : Streams) (readings : List Reading) (terms : List Term) (gain
       fits = small_sums;
       deep = deep;
       low = low;
-      root = λ all. root_room;
+      root = λ all. root_room every;
     }

@@ -8,7 +8,8 @@ use Rattle.stage_law.specs.Registers.{HeldSum, StageRegister}
 use Rattle.stage_law.specs.Streams.{magnitudes}
 use Rattle.fir_pieces.specs.declared.reading.Reading.{Reading}
 use Rattle.fir_pieces.specs.Form.{one_value, reading_form}
-use Rattle.fir_pieces.specs.Listed.{window_sums, tree_sum, level_sums, tree_sums}
+use Rattle.stage_law.specs.declared.ranges.Class.{Class}
+use Rattle.fir_pieces.specs.Listed.{every, window_sums, tree_sum, level_sums, class_tree_sums, tree_sums}
 use Rattle.fir_pieces.specs.Placed.{all_minus, powers, term_segment}
 use Rattle.fir_pieces.specs.Reading.{spread, terms_at}
 use Rattle.fir_pieces.proofs.FormLemmas.{magnitudes-weights_by}
@@ -28,26 +29,29 @@ small_windows most depth some k s is =
 pub small_reading : (r : Reading) → magnitudes (reading_form r) ≤ 2
 small_reading r = let bound = magnitudes-weights_by false (terms_at r one_value) in let few = powers-one_value r in omega (arith, bound, few)
 
-small_sum : (most : ℕ) (readings : List Reading) (ticks : ℕ) (terms : List Term) (level j : ℕ) → powers (spread readings terms) ≤ most → magnitudes (tree_sum readings ticks terms level j).form ≤ most
-small_sum most readings ticks terms level j few =
+small_sum : (most : ℕ) (class : Class) (lag : ℕ) (readings : List Reading) (terms : List Term) (level j : ℕ) → powers (spread readings terms) ≤ most → magnitudes (tree_sum class lag readings terms level j).form ≤ most
+small_sum most class lag readings terms level j few =
     let segment = term_segment (suc level) j terms in
     let sum = magnitudes-weights_by (all_minus segment) (spread readings segment) in
     let part = powers-spread_take readings (2 ^ suc level) (drop (j * 2 ^ suc level) terms) in
     let rest = powers-spread_drop readings (j * 2 ^ suc level) terms in
     omega (arith, sum, part, rest, few)
 
-small_level : (most : ℕ) (readings : List Reading) (ticks : ℕ) (terms : List Term) (level count : ℕ) → powers (spread readings terms) ≤ most → AreFormsWithin most (level_sums readings ticks terms level count)
-small_level most readings ticks terms level zero few k s is = absurd (cc)
-small_level most readings ticks terms level (suc j) few k s is = elim (slice_get_push_cases (level_sums readings ticks terms level j) (tree_sum readings ticks terms level j) k s is) [
-  | inl before ↦ small_level most readings ticks terms level j few k s before
-  | inr last ↦ let same = ap (λ (h : HeldSum). magnitudes h.form) last.1 in omega (arith, same, small_sum most readings ticks terms level j few)
+small_level : (most : ℕ) (class : Class) (lag : ℕ) (readings : List Reading) (terms : List Term) (level count : ℕ) → powers (spread readings terms) ≤ most → AreFormsWithin most (level_sums class lag readings terms level count)
+small_level most class lag readings terms level zero few k s is = absurd (cc)
+small_level most class lag readings terms level (suc j) few k s is = elim (slice_get_push_cases (level_sums class lag readings terms level j) (tree_sum class lag readings terms level j) k s is) [
+  | inl before ↦ small_level most class lag readings terms level j few k s before
+  | inr last ↦ let same = ap (λ (h : HeldSum). magnitudes h.form) last.1 in omega (arith, same, small_sum most class lag readings terms level j few)
 ]
 
+pub small_class_trees : (most : ℕ) (class : Class) (lag : ℕ) (readings : List Reading) (terms : List Term) (levels : ℕ) → powers (spread readings terms) ≤ most → AreFormsWithin most (class_tree_sums class lag readings terms levels)
+small_class_trees most class lag readings terms zero few k s is = absurd (cc)
+small_class_trees most class lag readings terms (suc level) few k s is =
+    each_appended (λ (h : HeldSum). magnitudes h.form ≤ most) (class_tree_sums class lag readings terms level) (level_sums class lag readings terms level (level_count (length terms) (suc level)))
+    (small_class_trees most class lag readings terms level few) (small_level most class lag readings terms level (level_count (length terms) (suc level)) few) k s is
+
 pub small_trees : (most : ℕ) (readings : List Reading) (ticks : ℕ) (terms : List Term) (levels : ℕ) → powers (spread readings terms) ≤ most → AreFormsWithin most (tree_sums readings ticks terms levels)
-small_trees most readings ticks terms zero few k s is = absurd (cc)
-small_trees most readings ticks terms (suc level) few k s is =
-    each_appended (λ (h : HeldSum). magnitudes h.form ≤ most) (tree_sums readings ticks terms level) (level_sums readings ticks terms level (level_count (length terms) (suc level)))
-    (small_trees most readings ticks terms level few) (small_level most readings ticks terms level (level_count (length terms) (suc level)) few) k s is
+small_trees most readings ticks terms levels few = small_class_trees most every (suc ticks) readings terms levels few
 
 -- the form of each sum of the register is no greater
 abbrev pub IsFormWithin : ℕ → StageRegister → Type 0

@@ -17,7 +17,8 @@ use Rattle.pipeline_balance.specs.Numbered.{IsRegister, IsCounted, LeavesFree, I
 use Rattle.pipeline_balance.specs.Shallow.{ArePlain}
 use Rattle.pipeline_balance.specs.Shapes.{KeepsShapes}
 use Rattle.stage_law.specs.Streams.{Streams}
-use Rattle.fir_pieces.specs.Held.{IsFormWidth}
+use Rattle.stage_law.specs.declared.ranges.Class.{Class}
+use Rattle.fir_pieces.specs.Held.{IsClassWidth, IsFormWidth}
 
 -- the node `to` of the new net has this width, and the value of the node `from` wherever that fits
 pub record IsNarrowed (old new : NetView) (from : Node) (width : ℕ) (to : Node) : Type 0 where
@@ -28,6 +29,24 @@ pub record IsNarrowed (old new : NetView) (from : Node) (width : ℕ) (to : Node
   pub adders : SameAdders old.cells new.cells
   pub named : SameNamed old.cells new.cells
   pub names : LeavesFree old.cells new.cells (λ name. ⊥)
+  pub linear : KeepsShapes old.cells new.cells
+
+-- The new net has a window of a stream that carries what this one carries, wherever a value of the class fits. It has so many window
+-- registers more, numbered on, of the least width for the values of the class, before which no adder stands.
+pub record AddsClassWindow (streams : Streams) (old new : NetView) (taken : Stream) (class : Class) (nodes : List Node) : Type 0 where
+  pub grows : Grows old new
+  pub node : Node
+  pub width : ℕ
+  pub least : IsClassWidth streams class (pos 1 ∷ []) width
+  pub keeps : (cut : Cut) → IsCut cut → (inputs : ℕ → ℤ) (values : Values) → IsRun cut new.cells inputs values → (t : ℕ) → FitsWidth width (values t taken.node.place) → values t node.place ≡ values t taken.node.place
+  pub holds : (age : ℕ) (found : Node) → slice_get nodes age ≡ Some found → Holds new.cells (record { node = node; period = taken.period; offset = taken.offset }) age found
+  pub plain : (count : ℕ) → IsCounted old.cells old.group Window count → ArePlain new.cells old.group nodes
+  pub adders : SameAdders old.cells new.cells
+  pub windows : windows_in old.group new.cells ≡ windows_in old.group old.cells + length nodes
+  pub tables : tables_in old.group new.cells ≡ tables_in old.group old.cells
+  pub registers : (count : ℕ) → IsCounted old.cells old.group Window count → (age : ℕ) (found : Node) → slice_get nodes age ≡ Some found → IsRegister new.cells found.place old.group (name_of old.group Window (count + age)) width
+  pub counted : (count : ℕ) → IsCounted old.cells old.group Window count → IsCounted new.cells old.group Window (count + length nodes)
+  pub names : LeavesFree old.cells new.cells (IsTouched old.group Window)
   pub linear : KeepsShapes old.cells new.cells
 
 -- each node stands in the net and is at most as wide as the values of the streams need

@@ -7,6 +7,7 @@ use Rattle.stage_law.specs.Range.{IsRange}
 use Rattle.stage_law.specs.Registers.{HeldSum}
 use Rattle.stage_law.specs.Streams.{Streams, AreWithin}
 use Rattle.stage_law.specs.Weights.{weights_of}
+use Rattle.stage_law.specs.declared.ranges.Class.{Class}
 use Rattle.stage_law.specs.declared.ranges.Range.{Range}
 use Rattle.fir_pieces.specs.declared.held.Held.{Held}
 use Rattle.fir_pieces.specs.declared.reading.Reading.{Reading}
@@ -15,11 +16,15 @@ use Rattle.fir_pieces.specs.Reading.{spread}
 use Rattle.fir_pieces.specs.Form.{form_of}
 use Rattle.fir_pieces.specs.Listed.{every}
 
--- the width is the least that holds each sum of the form over the streams
-pub record IsFormWidth (streams : Streams) (form : List ℤ) (width : ℕ) : Type 0 where
+-- the width is the least that holds each sum of the form at the values of a class, over the streams
+pub record IsClassWidth (streams : Streams) (class : Class) (form : List ℤ) (width : ℕ) : Type 0 where
   pub range : Range
-  pub is_range : IsRange streams form every range
+  pub is_range : IsRange streams form class range
   pub least : IsLeastWidth range.lo range.hi width
+
+-- at every value
+abbrev pub IsFormWidth : Streams → List ℤ → ℕ → Type 0
+IsFormWidth streams form width = IsClassWidth streams every form width
 
 -- the widths of the registers of a tree over these terms, level by level
 pub record AreTreeWidths (streams : Streams) (readings : List Reading) (terms : List Term) (levels : ℕ) (widths : List ℕ) : Type 0 where
@@ -37,19 +42,20 @@ pub record AreSmall (streams : Streams) (readings : List Reading) (terms : List 
   pub within : AreWithin streams most
   pub room : most * powers (spread readings terms) ≤ 2 ^ 126
 
--- these are the form's sums over the streams, with their range, so many ticks after the stream's value
-pub record IsHeld (streams : Streams) (form : List ℤ) (lag : ℕ) (own : Held) : Type 0 where
+-- these are the form's sums over the streams, with their range, so many ticks after each value of a class
+pub record IsHeld (streams : Streams) (form : List ℤ) (class : Class) (lag : ℕ) (own : Held) : Type 0 where
   pub is_form : weights_of own.sum ≡ form
+  pub is_class : own.class ≡ class
   pub is_lag : own.lag ≡ lag
-  pub is_range : IsRange streams form every own.range
+  pub is_range : IsRange streams form class own.range
 
 abbrev pub held_sum : Held → HeldSum
-held_sum own = record { form = weights_of own.sum; class = every; lag = own.lag }
+held_sum own = record { form = weights_of own.sum; class = own.class; lag = own.lag }
 
 -- these are the sums of the list, with their ranges over the streams
 pub record AreHeld (streams : Streams) (sums : List HeldSum) (held : List Held) : Type 0 where
   pub same : map held_sum held ≡ sums
-  pub each : (k : ℕ) (own : Held) → slice_get held k ≡ Some own → IsRange streams (weights_of own.sum) every own.range
+  pub each : (k : ℕ) (own : Held) → slice_get held k ≡ Some own → IsRange streams (weights_of own.sum) own.class own.range
 
 -- the new list has these sums more
 pub record AddsHeld (streams : Streams) (more : List HeldSum) (old new : List Held) : Type 0 where

@@ -5,6 +5,8 @@ pub mod Listed
 pub mod Moment
 pub mod Split
 pub mod Held
+pub mod Widest
+pub mod Columns
 pub mod Peaks
 pub mod FormSums
 pub mod PhaseSums

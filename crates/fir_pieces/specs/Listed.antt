@@ -29,27 +29,34 @@ window_sums (suc age) = window_sums age ++ window_sum age ∷ []
 
 -- ---- what is read of the window, one tick later
 
+abbrev pub class_reading_sum : Class → ℕ → Reading → HeldSum
+class_reading_sum class lag r = record { form = reading_form r; class = class; lag = lag }
+
 abbrev pub reading_sum : Reading → HeldSum
-reading_sum r = record { form = reading_form r; class = every; lag = 2 }
+reading_sum r = class_reading_sum every 2 r
 
 abbrev pub reading_sums : List Reading → List HeldSum
 reading_sums readings = map reading_sum readings
 
--- ---- a tree over nodes that show these, so many ticks after the window
+-- ---- a tree over nodes that show these, so many ticks after each value of a class
 
 -- the sum of the register number j of a level: over the terms under it, one tick later for each level
-abbrev pub tree_sum : List Reading → ℕ → List Term → ℕ → ℕ → HeldSum
-tree_sum readings ticks terms level j = record { form = form_of readings (term_segment (suc level) j terms); class = every; lag = ticks + level + 2 }
+abbrev pub tree_sum : Class → ℕ → List Reading → List Term → ℕ → ℕ → HeldSum
+tree_sum class lag readings terms level j = record { form = form_of readings (term_segment (suc level) j terms); class = class; lag = lag + suc level }
 
 -- of the first registers of a level
-abbrev pub level_sums : List Reading → ℕ → List Term → ℕ → ℕ → List HeldSum
-level_sums readings ticks terms level zero = []
-level_sums readings ticks terms level (suc j) = level_sums readings ticks terms level j ++ tree_sum readings ticks terms level j ∷ []
+abbrev pub level_sums : Class → ℕ → List Reading → List Term → ℕ → ℕ → List HeldSum
+level_sums class lag readings terms level zero = []
+level_sums class lag readings terms level (suc j) = level_sums class lag readings terms level j ++ tree_sum class lag readings terms level j ∷ []
 
 -- level by level, each from the left
+abbrev pub class_tree_sums : Class → ℕ → List Reading → List Term → ℕ → List HeldSum
+class_tree_sums class lag readings terms zero = []
+class_tree_sums class lag readings terms (suc level) = class_tree_sums class lag readings terms level ++ level_sums class lag readings terms level (level_count (length terms) (suc level))
+
+-- at every value, so many ticks after the window
 abbrev pub tree_sums : List Reading → ℕ → List Term → ℕ → List HeldSum
-tree_sums readings ticks terms zero = []
-tree_sums readings ticks terms (suc level) = tree_sums readings ticks terms level ++ level_sums readings ticks terms level (level_count (length terms) (suc level))
+tree_sums readings ticks terms levels = class_tree_sums every (suc ticks) readings terms levels
 
 -- ---- registers
 

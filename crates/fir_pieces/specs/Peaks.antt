@@ -9,6 +9,7 @@ use Rattle.stage_law.specs.Registers.{HeldSum, needs_high}
 use Rattle.stage_law.specs.Streams.{Streams}
 use Rattle.stage_law.specs.declared.stage.Peak.{Peak}
 use Rattle.fir_pieces.specs.declared.held.Held.{Held}
+use Rattle.fir_pieces.specs.Widest.{widest}
 use Rattle.fir_pieces.specs.Listed.{every}
 use Rattle.fir_pieces.specs.Held.{IsFormWidth}
 use Rattle.fir_pieces.specs.Moment.{HoldsForms}
@@ -16,13 +17,24 @@ use Rattle.fir_pieces.specs.Split.{split_pace}
 
 -- the peak of a register that holds this: none where one bit is wide enough
 abbrev pub peak_at : Node → Held → List Peak
-peak_at node own = if nat_eq own.width 1 then [] else record { register = node; sum = own.sum; class = every; lag = own.lag; high = needs_high own.range own.width } ∷ []
+peak_at node own = if nat_eq own.width 1 then [] else record { register = node; sum = own.sum; class = own.class; lag = own.lag; high = needs_high own.range own.width } ∷ []
 
 -- the peaks of these registers, in their order
 abbrev pub peaks_at : List Held → List Node → List Peak
 peaks_at [] nodes = []
 peaks_at (own ∷ held) [] = []
 peaks_at (own ∷ held) (node ∷ nodes) = peak_at node own ++ peaks_at held nodes
+
+-- the peak of the first of these sums that needs so many bits
+abbrev pub widest_peak : Node → ℕ → List Held → List Peak
+widest_peak node width [] = []
+widest_peak node width (own ∷ held) = if nat_eq own.width width then peak_at node own else widest_peak node width held
+
+-- the peaks of registers with several sums, in their order
+abbrev pub all_peaks_at : List (List Held) → List Node → List Peak
+all_peaks_at [] nodes = []
+all_peaks_at (held ∷ all) [] = []
+all_peaks_at (held ∷ all) (node ∷ nodes) = widest_peak node (widest held) held ++ all_peaks_at all nodes
 
 -- the node holds this one form at each value of the stream, so many ticks after it was taken
 abbrev pub HoldsForm : Streams → List Cell → Stream → List ℤ → ℕ → Node → Type 0

@@ -1,5 +1,5 @@
 -- Registers over what is read of a window.
-use Rattle.std.specs.Prelude.{◌≡◌, ℕ, suc, ◌+◌, ◌<◌, ◌≤◌, List, length, Some, slice_get, slice_index_or, ℤ, pos}
+use Rattle.std.specs.Prelude.{◌≡◌, ℕ, suc, ◌+◌, ◌<◌, ◌≤◌, List, length, get_or, Some, slice_get, slice_index_or, ℤ, pos}
 use Rattle.mr_values.specs.Width.{FitsWidth}
 use Rattle.net_graph.specs.declared.cell.Cell.{Cell}
 use Rattle.net_graph.specs.declared.cell.Node.{Node}
@@ -22,7 +22,7 @@ use Rattle.fir_pieces.specs.declared.held.Held.{Held}
 use Rattle.fir_pieces.specs.declared.reading.Reading.{Reading}
 use Rattle.fir_pieces.specs.Cutting.{IsCutWindow}
 use Rattle.fir_pieces.specs.Form.{reading_form}
-use Rattle.fir_pieces.specs.Held.{AreHeld, IsFormWidth, IsHeld}
+use Rattle.fir_pieces.specs.Held.{AreHeld, IsFormWidth}
 use Rattle.fir_pieces.specs.Listed.{reading_sum, reading_sums}
 use Rattle.fir_pieces.specs.Peaks.{HoldsForm, IsDue}
 use Rattle.fir_pieces.specs.Reading.{read, reading_adders, all_adders}
@@ -58,6 +58,12 @@ pub record IsCombined (old new : NetView) (window : List Node) (reading : Readin
   pub linear : KeepsShapes old.cells new.cells
   pub shallow : IsShallow old.cells old.group → ArePlain old.cells old.group window → IsShallow new.cells old.group
 
+-- the node begins with 0, and has in each run what was read of the window's nodes a tick before, wherever that fits its width
+pub record TakesReading (cells : List Cell) (window : List Node) (reading : Reading) (width : ℕ) (to : Node) : Type 0 where
+  pub wide : (to.place < length cells) × ((cell_at cells to.place).width ≡ width)
+  pub starts : (cut : Cut) → IsCut cut → (inputs : ℕ → ℤ) (values : Values) → IsRun cut cells inputs values → values 0 to.place ≡ pos 0
+  pub steps : (cut : Cut) → IsCut cut → (inputs : ℕ → ℤ) (values : Values) → IsRun cut cells inputs values → (t : ℕ) → FitsWidth width (read reading (at_node values t window)) → values (suc t) to.place ≡ read reading (at_node values t window)
+
 -- the new net has one more register of this kind, with the next free number, that takes the node's value at each tick
 pub record TakesNext (old new : NetView) (kind : NameKind) (from to : Node) : Type 0 where
   pub grows : Grows old new
@@ -72,23 +78,35 @@ pub record TakesNext (old new : NetView) (kind : NameKind) (from to : Node) : Ty
   pub starts : (cut : Cut) → IsCut cut → (inputs : ℕ → ℤ) (values : Values) → IsRun cut new.cells inputs values → values 0 to.place ≡ pos 0
   pub steps : (cut : Cut) → IsCut cut → (inputs : ℕ → ℤ) (values : Values) → IsRun cut new.cells inputs values → (t : ℕ) → values (suc t) to.place ≡ values t from.place
 
--- The new net has one more register of this kind, with the next free number, before which no adder stands. In each run it holds what is
--- read of the window's values a tick before, and it has the least width for that.
-pub record AddsReader (streams : Streams) (old new : NetView) (window : List Node) (kind : NameKind) (reading : Reading) (own : Held) (to : Node) : Type 0 where
+-- The new net has one more register of this kind, with the next free number and of this width, before which no adder stands. In each run
+-- it holds what is read of the window's values a tick before, wherever that fits.
+pub record AddsRegister (old new : NetView) (window : List Node) (kind : NameKind) (reading : Reading) (width : ℕ) (to : Node) : Type 0 where
   pub grows : Grows old new
   pub adders : adders_in old.group new.cells ≡ adders_in old.group old.cells + reading_adders reading
   pub named_same : SameNamed old.cells new.cells
-  pub held : IsHeld streams (reading_form reading) 2 own
-  pub named : (count : ℕ) → IsCounted old.cells old.group kind count → IsRegister new.cells to.place old.group (name_of old.group kind count) own.width
+  pub named : (count : ℕ) → IsCounted old.cells old.group kind count → IsRegister new.cells to.place old.group (name_of old.group kind count) width
   pub counted : (count : ℕ) → IsCounted old.cells old.group kind count → IsCounted new.cells old.group kind (suc count)
   pub names : LeavesFree old.cells new.cells (IsTouched old.group kind)
   pub linear : KeepsShapes old.cells new.cells
   pub shallow : IsShallow old.cells old.group → ArePlain old.cells old.group window → IsShallow new.cells old.group
   pub plain : IsPlain new.cells old.group to.place
-  pub wide : (to.place < length new.cells) × ((cell_at new.cells to.place).width ≡ own.width)
-  pub holds : (from : Stream) → 1 ≤ from.period → IsCutWindow streams old.cells from window → HoldsForm streams new.cells from (reading_form reading) 1 to
+  pub takes : TakesReading new.cells window reading width to
 
 -- the new net has such a register for each of these, one after another
+pub record AddsRegisters (old new : NetView) (window : List Node) (kind : NameKind) (readings : List Reading) (widths : List ℕ) (nodes : List Node) : Type 0 where
+  pub grows : Grows old new
+  pub many : length nodes ≡ length readings
+  pub adders : adders_in old.group new.cells ≡ adders_in old.group old.cells + all_adders readings
+  pub named_same : SameNamed old.cells new.cells
+  pub counted : (count : ℕ) → IsCounted old.cells old.group kind count → IsCounted new.cells old.group kind (count + length readings)
+  pub names : LeavesFree old.cells new.cells (IsTouched old.group kind)
+  pub linear : KeepsShapes old.cells new.cells
+  pub shallow : IsShallow old.cells old.group → ArePlain old.cells old.group window → IsShallow new.cells old.group
+  pub plain : IsBound old.cells → ArePlain new.cells old.group nodes
+  pub takes : (k : ℕ) (r : Reading) (node : Node) → slice_get readings k ≡ Some r → slice_get nodes k ≡ Some node → TakesReading new.cells window r (get_or widths k 0) node
+  pub named : (count k : ℕ) (node : Node) → IsCounted old.cells old.group kind count → slice_get nodes k ≡ Some node → IsRegister new.cells node.place old.group (name_of old.group kind (count + k)) (get_or widths k 0)
+
+-- the new net has such a register for each of these, of the least width for what it holds
 pub record AddsReaders (streams : Streams) (old new : NetView) (window : List Node) (kind : NameKind) (readings : List Reading) (held : List Held) (nodes : List Node) : Type 0 where
   pub grows : Grows old new
   pub many : length nodes ≡ length readings

@@ -7,12 +7,12 @@ ghost use Rattle.stage_law.specs.Weights.{weights_of};
 ghost use Rattle.pipeline_balance.specs.Tree.{level_count};
 ghost use Rattle.fir_pieces.specs.Placed.{term_segment};
 ghost use Rattle.fir_pieces.specs.Form.{form_of, reading_form};
-ghost use Rattle.fir_pieces.specs.Listed.{level_sums, tree_sums};
+ghost use Rattle.fir_pieces.specs.Listed.{class_reading_sum, class_tree_sums, every, level_sums};
 ghost use Rattle.fir_pieces.specs.declared.held.Held.{Held};
 ghost use Rattle.fir_pieces.specs.Held.{AreSmall, IsHeld, AddsHeld, AreHeld};
 
 use crate::forms::{all_minus, sum_of};
-use crate::held::Held;
+use crate::held::{Beat, Held};
 use crate::reading::{Reading, push_terms, spread};
 use mr_values::{Memory, least_width};
 use signed_digit::Term;
@@ -26,20 +26,30 @@ pub(crate) fn width_of(range: Range) -> u8
     least_width(range.lo, range.hi)
 }
 
-/// What a register with this sum holds.
-pub(crate) fn held_of<R: Ranges>(sum: WeightedSum, lag: u64, ranges: &R) -> Held
-    requires { (most : ℕ) × AreWithin (R.streams ranges.now) most × (most * magnitudes (weights_of sum) ≤ 2 ^ 126) }
-    ensures { IsHeld (R.streams ranges.now) (weights_of sum) lag result }
+/// The values of every index, and a number of ticks after each.
+pub(crate) fn every_beat(lag: u64) -> Beat
+    requires { lag ≤ 2 ^ 40 }
+    ensures class { result.class ≡ every }
+    ensures lag { result.lag ≡ lag }
 {
-    let every = Class {
+    let class = Class {
         modulus: 1,
         residue: 0,
     };
-    let range = ranges.range(&sum, every);
+    Beat { class, lag }
+}
+
+/// What a register with this sum holds.
+pub(crate) fn held_of<R: Ranges>(sum: WeightedSum, beat: Beat, ranges: &R) -> Held
+    requires { (most : ℕ) × AreWithin (R.streams ranges.now) most × (most * magnitudes (weights_of sum) ≤ 2 ^ 126) }
+    ensures { IsHeld (R.streams ranges.now) (weights_of sum) beat.class beat.lag result }
+{
+    let range = ranges.range(&sum, beat.class);
     let width = width_of(range);
     Held {
         sum,
-        lag,
+        class: beat.class,
+        lag: beat.lag,
         range,
         width,
     }
@@ -50,25 +60,26 @@ fn held_terms<R: Ranges>(
     alloc: Global,
     readings: &[Reading],
     terms: &[Term],
-    lag: u64,
+    beat: Beat,
     ranges: &R,
 ) -> Result<Held, Memory>
     requires { AreSmall (R.streams ranges.now) readings.now terms.now }
-    ensures { IfOk result (IsHeld (R.streams ranges.now) (form_of readings.now terms.now) lag) }
+    ensures { IfOk result (IsHeld (R.streams ranges.now) (form_of readings.now terms.now) beat.class beat.lag) }
 {
     let values = spread(alloc, readings, terms)?;
     let sum = sum_of(alloc, all_minus(terms), values.as_slice())?;
-    Ok(held_of(sum, lag, ranges))
+    Ok(held_of(sum, beat, ranges))
 }
 
-/// What a register holds that takes what is read of a window, two ticks after the stream's value.
-pub(crate) fn held_reading<R: Ranges>(
+// What a register with this reading of the stream holds.
+fn held_reading<R: Ranges>(
     alloc: Global,
     reading: Reading,
+    beat: Beat,
     ranges: &R,
 ) -> Result<Held, Memory>
     requires { (most : ℕ) × AreWithin (R.streams ranges.now) most × (most ≤ 2 ^ 125) }
-    ensures { IfOk result (IsHeld (R.streams ranges.now) (reading_form reading) 2) }
+    ensures { IfOk result (IsHeld (R.streams ranges.now) (reading_form reading) beat.class beat.lag) }
 {
     let mut values = Vec::new(alloc);
     push_terms(
@@ -81,7 +92,24 @@ pub(crate) fn held_reading<R: Ranges>(
         },
     )?;
     let sum = sum_of(alloc, false, values.as_slice())?;
-    Ok(held_of(sum, 2, ranges))
+    Ok(held_of(sum, beat, ranges))
+}
+
+/// What registers with these readings of the stream hold.
+pub fn readings_held<R: Ranges>(
+    alloc: Global,
+    readings: &[Reading],
+    beat: Beat,
+    ranges: &R,
+) -> Result<Vec<Held>, Memory>
+    requires { (most : ℕ) × AreWithin (R.streams ranges.now) most × (most ≤ 2 ^ 125) }
+    ensures { IfOk result (λ held. AreHeld (R.streams ranges.now) (map (class_reading_sum beat.class beat.lag) readings.now) held.items) }
+{
+    let mut held = Vec::new(alloc);
+    for reading in readings {
+        held.push(held_reading(alloc, *reading, beat, ranges)?)?;
+    }
+    Ok(held)
 }
 
 // The terms under the register number j of a level.
@@ -111,41 +139,46 @@ fn push_level<R: Ranges>(
     alloc: Global,
     held: &mut Vec<Held>,
     readings: &[Reading],
-    ticks: u8,
+    beat: Beat,
     terms: &[Term],
     level: u32,
     ranges: &R,
 ) -> Result<(), Memory>
     requires fits { AreSmall (R.streams ranges.now) readings.now terms.now }
     requires low { level ≤ 31 }
-    ensures { IfOk result (λ _. AddsHeld (R.streams ranges.now) (level_sums readings.now ticks terms.now level (level_count (length terms.now) (suc level))) held.old.items held.new.items) }
+    requires early { beat.lag ≤ 2 ^ 32 }
+    ensures { IfOk result (λ _. AddsHeld (R.streams ranges.now) (level_sums beat.class beat.lag readings.now terms.now level (level_count (length terms.now) (suc level))) held.old.items held.new.items) }
 {
-    let lag = u64::from(ticks) + u64::from(level) + 2;
+    let later = Beat {
+        class: beat.class,
+        lag: beat.lag + u64::from(level) + 1,
+    };
     let count = count_of(terms.len(), level);
     for j in 0..count {
         let part = segment_of(terms, level, j);
-        let own = held_terms(alloc, readings, part, lag, ranges)?;
+        let own = held_terms(alloc, readings, part, later, ranges)?;
         held.push(own)?;
     }
     Ok(())
 }
 
-/// What the registers of a tree hold over these terms of what nodes show, so many ticks after a window, level by level.
-pub(crate) fn tree_held<R: Ranges>(
+/// What the registers of a tree hold over these terms of nodes, which show the readings at the beat, level by level.
+pub fn tree_held<R: Ranges>(
     alloc: Global,
     readings: &[Reading],
-    ticks: u8,
+    beat: Beat,
     terms: &[Term],
     levels: u32,
     ranges: &R,
 ) -> Result<Vec<Held>, Memory>
     requires fits { AreSmall (R.streams ranges.now) readings.now terms.now }
     requires low { levels ≤ 31 }
-    ensures { IfOk result (λ held. AreHeld (R.streams ranges.now) (tree_sums readings.now ticks terms.now levels) held.items) }
+    requires early { beat.lag ≤ 2 ^ 32 }
+    ensures { IfOk result (λ held. AreHeld (R.streams ranges.now) (class_tree_sums beat.class beat.lag readings.now terms.now levels) held.items) }
 {
     let mut held = Vec::new(alloc);
     for level in 0..levels {
-        push_level(alloc, &mut held, readings, ticks, terms, level, ranges)?;
+        push_level(alloc, &mut held, readings, beat, terms, level, ranges)?;
     }
     Ok(held)
 }

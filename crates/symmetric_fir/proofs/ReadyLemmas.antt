@@ -16,7 +16,7 @@ use Rattle.fir_pieces.specs.declared.reading.Reading.{Reading}
 use Rattle.fir_pieces.specs.declared.reading.Reading.TheVariants.{One}
 use Rattle.fir_pieces.specs.Form.{reading_form}
 use Rattle.fir_pieces.specs.Held.{IsFormWidth, held_sum}
-use Rattle.fir_pieces.specs.Listed.{reading_sum}
+use Rattle.fir_pieces.specs.Listed.{every, reading_sum}
 use Rattle.fir_pieces.specs.Placed.{leaf_of}
 use Rattle.fir_pieces.specs.Reading.{reading_at}
 use Rattle.fir_pieces.specs.Sums.{AddsTree, IsReady}
@@ -39,7 +39,7 @@ pub mirror_ready : {old middle : NetView} {window pair_nodes centre_nodes : List
     → AddsFront streams old middle window anti taps pair_held centre_held pair_nodes centre_nodes → IsReady streams middle.cells (pair_nodes ++ centre_nodes) (readings anti taps) (mirror_terms taps) levels
 mirror_ready {old} {middle} {window} {pair_nodes} {centre_nodes} {pair_held} {centre_held} streams anti taps levels mirrored are_taps few room levels_are f =
     tree_ready streams (readings anti taps) (mirror_terms taps) (magnitudes taps) (terms_within anti taps) (mirror_powers anti taps mirrored) (gain_small taps are_taps) few room within middle.cells (pair_nodes ++ centre_nodes) many
-    (λ k node there. let known = wide k node there in (known.0, IsNoWider-least streams (reading_form (reading_at (readings anti taps) k)) (cell_at middle.cells node.place).width known.1)) levels deep low
+    (λ k node there. let known = wide k node there in (known.0, IsNoWider-least streams every (reading_form (reading_at (readings anti taps) k)) (cell_at middle.cells node.place).width known.1)) levels deep low
   where
     levels_of_terms : levels ≡ ceil_log (length (mirror_terms taps))
     levels_of_terms = levels_are ∙ ap ceil_log (sym (length-mirror_terms taps))
@@ -100,7 +100,7 @@ module _ {old new : NetView} {window pair_nodes registers : List Node} {anti : �
   tree_many : length s.tree_held ≡ length s.tree_registers
   tree_many =
       let nodes = pair_nodes ++ s.centre_nodes in
-      sym (length-map s.tree_held held_sum) ∙ ap length s.tree.sums.same ∙ length-tree_sums (readings anti taps) 1 (mirror_terms taps) levels
+      sym (length-map s.tree_held held_sum) ∙ ap length s.tree.sums.same ∙ length-tree_sums every 2 (readings anti taps) (mirror_terms taps) levels
       ∙ sym (s.tree.tree.held.count ∙ ap (λ (n : ℕ). count_to n levels) (length-map (mirror_terms taps) (leaf_of nodes)))
 
   pub later_many : length held ≡ length registers

@@ -1,16 +1,6 @@
-use Rattle.std.proofs.Common.{List, ℤ, subst}
-use Rattle.stage_law.specs.Range.{IsRange}
-use Rattle.fir_pieces.specs.Listed.{every}
-use Rattle.net_graph.proofs.NetLemmas.{Extends-trans}
-use Rattle.fir_pieces.proofs.CuttingLemmas.{AddsWindow-cut}
+use Rattle.std.proofs.lemmas.Result.{IfOk-weaker}
+use Rattle.fir_pieces.proofs.CuttingLemmas.{AddsWindow-class}
 use Rattle.fir_pieces.proofs.cutting.cut_window.Goals as goal
 
-pub returns-in_err-nodes-clause-extends : goal.returns-in_err-nodes-clause-extends
-returns-in_err-nodes-clause-extends g c = Extends-trans _ _ _ c.in_ok-node.ensures.extends c.in_err-nodes.ensures.extends
-
 pub returns-clause-ok : goal.returns-clause-ok
-returns-clause-ok g c =
-    AddsWindow-cut (g.R.Ranges.streams c.args.ranges.now) c.args.from c.requires.unused (record { range = c.range-range.result; is_range = subst (λ (ws : List ℤ). IsRange (g.R.Ranges.streams c.args.ranges.now) ws every c.range-range.result) c.in_ok-value.ensures c.range-range.ensures; least = c.width_of-width.ensures }) c.in_ok-node.ensures.ok c.in_ok-nodes.ensures.window
-
-pub returns-clause-extends : goal.returns-clause-extends
-returns-clause-extends g c = (returns-clause-ok g c).grows.extends
+returns-clause-ok g c = IfOk-weaker c.class_window.result _ _ (λ nodes w. AddsWindow-class (g.R.Ranges.streams c.args.ranges.now) c.args.from c.requires.unused w) c.class_window.ensures.ok

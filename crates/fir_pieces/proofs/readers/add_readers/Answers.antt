@@ -1,39 +1,24 @@
-use Rattle.std.proofs.Common.{◌≡◌, ◌∙◌, ◌+◌, ◌++◌, ◌∷◌, [], ℕ, suc, List, take, get_or, sym, ap, subst, arith}
-use Rattle.std.proofs.Math.Seq.{take-suc}
-use Rattle.net_graph.specs.declared.cell.Node.{Node}
-use Rattle.net_graph.proofs.NetLemmas.{Extends-trans}
+use Rattle.std.proofs.Common.{◌≡◌, ◌∙◌, ℕ, List, map, length, ap, subst}
+use Rattle.stage_law.specs.declared.ranges.Class.{Class}
 use Rattle.fir_pieces.specs.declared.held.Held.{Held}
-use Rattle.fir_pieces.specs.declared.reading.Reading.{Reading}
-use Rattle.fir_pieces.specs.declared.reading.Reading.TheVariants.{One}
-use Rattle.fir_pieces.specs.Readers.{AddsReaders}
-use Rattle.fir_pieces.proofs.ReadersLemmas.{AddsReaders-push}
+use Rattle.fir_pieces.specs.Held.{AreHeld}
+use Rattle.fir_pieces.specs.Listed.{class_reading_sum, every}
+use Rattle.fir_pieces.specs.Readers.{AddsRegisters}
+use Rattle.fir_pieces.proofs.ColumnLemmas.{held_width}
+use Rattle.fir_pieces.proofs.ReadersLemmas.{AddsReaders-of}
 use Rattle.fir_pieces.proofs.readers.add_readers.Goals as goal
 
-pub returns-in_err-node-clause-extends : goal.returns-in_err-node-clause-extends
-returns-in_err-node-clause-extends g c = Extends-trans _ _ _ c.loop-reading.invariant.extends c.in_err-node.ensures.extends
+pub add_registers-requires-clause-wide : goal.add_registers-requires-clause-wide
+add_registers-requires-clause-wide g c =
+    let widths_are = c.in_ok-widths.ensures ∙ ap (λ (held : List Held). map (λ (own : Held). own.width) held) c.as_slice.ensures.value in
+    rw (c.as_slice-2.ensures.value, widths_are) (held_width c.in_ok-held.held.items)
 
-pub returns-in_err-push-clause-extends : goal.returns-in_err-push-clause-extends
-returns-in_err-push-clause-extends g c = Extends-trans _ _ _ c.loop-reading.invariant.extends c.in_ok-node.ensures.extends
-
-pub returns-in_err-push-2-clause-extends : goal.returns-in_err-push-2-clause-extends
-returns-in_err-push-2-clause-extends g c = Extends-trans _ _ _ c.loop-reading.invariant.extends c.in_ok-node.ensures.extends
-
--- one register more
-pub loop-reading-preserved : goal.loop-reading-preserved
-loop-reading-preserved g c =
-    let i = c.loop-reading.invariant in
+pub returns-clause-ok : goal.returns-clause-ok
+returns-clause-ok g c =
     let streams = g.R.Ranges.streams c.args.ranges.now in
     let readings = c.args.readings.now in
-    let index = c.loop-reading.reading-index in
-    let r = get_or readings index (One 0) in
-    let next : index + 1 ≡ suc index = omega arith in
-    let more : take (index + 1) readings ≡ take index readings ++ r ∷ [] = ap (λ (n : ℕ). take n readings) next ∙ take-suc readings index (One 0) c.loop-reading-test.true in
-    let pushed = AddsReaders-push streams r c.in_ok-node.held (c.requires.within index (One 0) c.loop-reading-test.true) i.added c.in_ok-node.ensures.ok in
-    record {
-      group = c.in_ok-node.ensures.group ∙ i.group;
-      extends = Extends-trans _ _ _ i.extends c.in_ok-node.ensures.extends;
-      added =
-          subst (λ (rs : List Reading). AddsReaders streams c.args.net.now c.add_reader.new.net c.args.window.now c.args.kind rs c.push-in-loop-reading.new.self.items c.push.new.self.items) (sym more)
-          (subst (λ (held : List Held). AddsReaders streams c.args.net.now c.add_reader.new.net c.args.window.now c.args.kind (take index readings ++ r ∷ []) held c.push.new.self.items) (sym c.in_ok-push-2.ensures.items)
-          (subst (λ (nodes : List Node). AddsReaders streams c.args.net.now c.add_reader.new.net c.args.window.now c.args.kind (take index readings ++ r ∷ []) (c.loop-reading.readers.held.items ++ c.in_ok-node.held ∷ []) nodes) (sym c.in_ok-push.ensures.items) pushed));
-    }
+    let held = c.in_ok-held.held.items in
+    let widths_are = c.in_ok-widths.ensures ∙ ap (λ (held : List Held). map (λ (own : Held). own.width) held) c.as_slice.ensures.value in
+    let held_are = subst (λ (n : ℕ). AreHeld streams (map (class_reading_sum every n) readings) held) c.every_beat.ensures.lag (subst (λ (k : Class). AreHeld streams (map (class_reading_sum k c.every_beat.result.lag) readings) held) c.every_beat.ensures.class c.in_ok-held.ensures) in
+    AddsReaders-of streams (g.met.R.Ranges.causal c.args.ranges.now) c.requires.within held_are widths_are
+    (subst (λ (widths : List ℕ). AddsRegisters c.args.net.now c.add_registers.new.net c.args.window.now c.args.kind readings widths c.in_ok-nodes.nodes.items) c.as_slice-2.ensures.value c.in_ok-nodes.ensures.ok)

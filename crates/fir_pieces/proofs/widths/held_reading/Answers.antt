@@ -33,4 +33,4 @@ held_of-requires g c =
 pub returns : goal.returns
 returns g c =
     let are : c.as_slice.result.now ≡ terms_at c.args.reading one_value = c.as_slice.ensures.value ∙ c.in_ok-push_terms.ensures ∙ ap (λ (ts : List Term). ts ++ terms_at c.args.reading one_value) c.new-values.ensures.items in
-    subst (λ (f : List ℤ). IsHeld (g.R.Ranges.streams c.args.ranges.now) f 2 c.held_of.result) (c.in_ok-sum.ensures ∙ ap (weights_by false) are) c.held_of.ensures
+    subst (λ (f : List ℤ). IsHeld (g.R.Ranges.streams c.args.ranges.now) f c.args.beat.class c.args.beat.lag c.held_of.result) (c.in_ok-sum.ensures ∙ ap (weights_by false) are) c.held_of.ensures

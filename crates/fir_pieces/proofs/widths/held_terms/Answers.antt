@@ -29,4 +29,4 @@ pub returns : goal.returns
 returns g c =
     let are : c.as_slice.result.now ≡ spread c.args.readings.now c.args.terms.now = c.as_slice.ensures.value ∙ c.in_ok-values.ensures in
     let form : weights_by c.all_minus.result c.as_slice.result.now ≡ form_of c.args.readings.now c.args.terms.now = ap (weights_by c.all_minus.result) are ∙ ap (λ b. weights_by b (spread c.args.readings.now c.args.terms.now)) c.all_minus.ensures in
-    subst (λ (f : List ℤ). IsHeld (g.R.Ranges.streams c.args.ranges.now) f c.args.lag c.held_of.result) (c.in_ok-sum.ensures ∙ form) c.held_of.ensures
+    subst (λ (f : List ℤ). IsHeld (g.R.Ranges.streams c.args.ranges.now) f c.args.beat.class c.args.beat.lag c.held_of.result) (c.in_ok-sum.ensures ∙ form) c.held_of.ensures

@@ -1,4 +1,4 @@
-use Rattle.std.proofs.Common.{◌≡◌, ◌∙◌, ℕ, suc, ◌+◌, ap, subst}
+use Rattle.std.proofs.Common.{◌≡◌, ◌∙◌, ℕ, suc, ◌+◌, ap, subst, arith}
 use Rattle.fir_pieces.specs.Form.{form_of}
 use Rattle.fir_pieces.specs.Held.{IsHeld}
 use Rattle.fir_pieces.proofs.WidthsLemmas.{AreSmall-segment, AddsHeld-none, AddsHeld-push}
@@ -14,6 +14,7 @@ pub loop-j-preserved : goal.loop-j-preserved
 loop-j-preserved g c =
     let streams = g.R.Ranges.streams c.args.ranges.now in
     let form = form_of c.args.readings.now c.segment_of-part.result.now in
-    let lag : c.from.result + c.from-2.result + 2 ≡ c.args.ticks + c.args.level + 2 = ap (λ (n : ℕ). n + c.from-2.result + 2) c.from.ensures ∙ ap (λ (n : ℕ). c.args.ticks + n + 2) c.from-2.ensures in
-    let own = subst (λ (n : ℕ). IsHeld streams form n c.in_ok-own.own) lag c.in_ok-own.ensures in
-    AddsHeld-push streams c.args.readings.now c.args.ticks c.args.terms.now c.args.level c.loop-j.j c.args.held.now.items c.loop-j.held.items c.in_ok-own.own c.push.new.self.items c.segment_of-part.result.now c.segment_of-part.ensures c.loop-j.invariant own c.in_ok-push.ensures.items
+    let same = c.from.ensures in
+    let lag : c.args.beat.lag + c.from.result + 1 ≡ c.args.beat.lag + suc c.args.level = omega (arith, same) in
+    let own = subst (λ (n : ℕ). IsHeld streams form c.args.beat.class n c.in_ok-own.own) lag c.in_ok-own.ensures in
+    AddsHeld-push streams c.args.beat.class c.args.beat.lag c.args.readings.now c.args.terms.now c.args.level c.loop-j.j c.args.held.now.items c.loop-j.held.items c.in_ok-own.own c.push.new.self.items c.segment_of-part.result.now c.segment_of-part.ensures c.loop-j.invariant own c.in_ok-push.ensures.items
