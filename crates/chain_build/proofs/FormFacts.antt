@@ -1,14 +1,16 @@
 -- What a filter of each form that is built does as a stage, how great its sums are, and what it costs.
 use Rattle.std.proofs.Common.{◌≡◌, ℕ, ◌+◌, ◌-◌, ◌/◌, ◌<◌, ◌≤◌, refl, sym, ◌∙◌, ap, arith, List, [], ◌∷◌, length, ℤ, pos, ◌+ℤ◌, ◌-ℤ◌, ◌*ℤ◌, Option, None, Some, Bool, true, false, ◌&&◌}
-use Rattle.std.specs.Prelude.{unsigned_abs, unwrap_or, is_none, ◌||◌}
+use Rattle.std.specs.Prelude.{unsigned_abs, unwrap_or, is_none, nat_le, ◌||◌}
+use Rattle.std.proofs.lemmas.Bool.{leb-true}
 use Rattle.std.proofs.Math.Path.{fun_ext}
 use Rattle.std.proofs.lemmas.Int.{ints}
+use Rattle.distributed_table.specs.Facts.{distributed_facts}
 use Rattle.mr_values.specs.declared.plan.Form.{Form}
 use Rattle.mr_values.specs.declared.plan.Form.TheVariants.{Parallel, Symmetric, HalfBand, Folded, Distributed}
 use Rattle.mr_values.proofs.Plain.{up-one}
 use Rattle.mr_values.specs.Sequence.{Sequence, up, down, filter}
-use Rattle.mr_values.specs.Value.{chain}
-use Rattle.mr_values.specs.Timing.{Group, Fir, Stream, ceil_div, up_factor, down_factor, group_delay, form_delay, form_of, taps_of}
+use Rattle.mr_values.specs.Value.{chain, size}
+use Rattle.mr_values.specs.Timing.{Group, Fir, Stream, ceil_div, ceil_log, wide, up_factor, down_factor, group_delay, form_delay, form_of, taps_of}
 use Rattle.plan_check.specs.Amounts.{magnitude}
 use Rattle.plan_check.specs.Costs.{memory_of}
 use Rattle.plan_check.specs.Forms.{Flow, flow_of, form_fits, group_fits, is_symmetric, is_antisymmetric}
@@ -134,25 +136,47 @@ mirror-is None taps d flow anti alone = record {
 mirror-costs : (u : Option ℕ) (taps : List ℤ) (d : Option ℕ) (anti : ℕ) → CostsAs (Fir u (Some (taps, Symmetric)) d) (mirror_facts anti taps (unwrap_or d 1))
 mirror-costs u taps d anti = record { adders = mirror-adders anti taps (unwrap_or d 1); windows = refl; tables = refl }
 
+-- ---- filters by distributed arithmetic
+
+-- what the test of the form says
+pub record IsSerialGroup (u : Option ℕ) (bits period : ℕ) : Type 0 where
+  pub alone : is_none u ≡ true
+  pub enough : bits ≤ period
+
+pub serial-fits : (group : ℤ) (u : Option ℕ) (taps : List ℤ) (d : Option ℕ) (period : ℕ) (flow : Flow) → form_fits (Distributed group) u taps d period flow ≡ true → IsSerialGroup u (wide flow.low flow.high) period
+serial-fits group u taps d period flow e = let parts = both (is_none u) (nat_le (wide flow.low flow.high) period) e in record { alone = parts.0; enough = leb-true (wide flow.low flow.high) period parts.1 }
+
+serial-is : (group : ℤ) (u : Option ℕ) (taps : List ℤ) (d : Option ℕ) (flow : Flow) → is_none u ≡ true → IsFactsOf (Fir u (Some (taps, Distributed group)) d) flow (distributed_facts (size group) taps (unwrap_or d 1) (wide flow.low flow.high))
+serial-is group (Some factor) taps d flow alone = absurd (cc)
+serial-is group None taps d flow alone = record {
+  does = λ v. down-optional d (filter taps v);
+  up = refl;
+  down = refl;
+  delay = λ s is. ap (λ (f : Flow). 2 + wide f.low f.high + ceil_log (ceil_div (length taps) (size group))) (sym is);
+}
+
+serial-costs : (group : ℤ) (u : Option ℕ) (taps : List ℤ) (d : Option ℕ) (bits : ℕ) → CostsAs (Fir u (Some (taps, Distributed group)) d) (distributed_facts (size group) taps (unwrap_or d 1) bits)
+serial-costs group u taps d bits = record { adders = refl; windows = refl; tables = refl }
+
 -- ---- all forms that are built
 
-form-is : (form : Form) (taps : List ℤ) (u d : Option ℕ) (flow : Flow) (bits : ℕ) → is_built_form form ≡ true → group_fits (Fir u (Some (taps, form)) d) flow ≡ true → IsFactsOf (Fir u (Some (taps, form)) d) flow (fir_facts form taps (unwrap_or u 1) (unwrap_or d 1) bits)
-form-is Parallel taps u d flow bits built fits = parallel-is u (Some (taps, Parallel)) d flow refl
-form-is Symmetric taps u d flow bits built fits = mirror-is u taps d flow (anti_of taps) (mirror-fits u taps d 0 flow fits).alone
-form-is HalfBand taps u d flow bits built fits = absurd (cc)
-form-is (Folded slots) taps u d flow bits built fits = absurd (cc)
-form-is (Distributed group) taps u d flow bits built fits = absurd (cc)
+form-is : (form : Form) (taps : List ℤ) (u d : Option ℕ) (flow : Flow) → is_built_form form ≡ true → group_fits (Fir u (Some (taps, form)) d) flow ≡ true → IsFactsOf (Fir u (Some (taps, form)) d) flow (fir_facts form taps (unwrap_or u 1) (unwrap_or d 1) (wide flow.low flow.high))
+form-is Parallel taps u d flow built fits = parallel-is u (Some (taps, Parallel)) d flow refl
+form-is Symmetric taps u d flow built fits = mirror-is u taps d flow (anti_of taps) (mirror-fits u taps d 0 flow fits).alone
+form-is HalfBand taps u d flow built fits = absurd (cc)
+form-is (Folded slots) taps u d flow built fits = absurd (cc)
+form-is (Distributed group) taps u d flow built fits = serial-is group u taps d flow (serial-fits group u taps d _ flow fits).alone
 
-pub fir-is : (u : Option ℕ) (f : Option (List ℤ × Form)) (d : Option ℕ) (flow : Flow) (bits : ℕ) → is_built_form (form_of f) ≡ true → group_fits (Fir u f d) flow ≡ true → IsFactsOf (Fir u f d) flow (fir_facts (form_of f) (taps_of f) (unwrap_or u 1) (unwrap_or d 1) bits)
-fir-is u None d flow bits built fits = parallel-is u None d flow refl
-fir-is u (Some f) d flow bits built fits = form-is f.1 f.0 u d flow bits built fits
+pub fir-is : (u : Option ℕ) (f : Option (List ℤ × Form)) (d : Option ℕ) (flow : Flow) → is_built_form (form_of f) ≡ true → group_fits (Fir u f d) flow ≡ true → IsFactsOf (Fir u f d) flow (fir_facts (form_of f) (taps_of f) (unwrap_or u 1) (unwrap_or d 1) (wide flow.low flow.high))
+fir-is u None d flow built fits = parallel-is u None d flow refl
+fir-is u (Some f) d flow built fits = form-is f.1 f.0 u d flow built fits
 
 form-costs : (form : Form) (taps : List ℤ) (u d : Option ℕ) (bits : ℕ) → is_built_form form ≡ true → CostsAs (Fir u (Some (taps, form)) d) (fir_facts form taps (unwrap_or u 1) (unwrap_or d 1) bits)
 form-costs Parallel taps u d bits built = parallel-costs u (Some (taps, Parallel)) d refl
 form-costs Symmetric taps u d bits built = mirror-costs u taps d (anti_of taps)
 form-costs HalfBand taps u d bits built = absurd (cc)
 form-costs (Folded slots) taps u d bits built = absurd (cc)
-form-costs (Distributed group) taps u d bits built = absurd (cc)
+form-costs (Distributed group) taps u d bits built = serial-costs group u taps d bits
 
 pub fir-costs : (u : Option ℕ) (f : Option (List ℤ × Form)) (d : Option ℕ) (bits : ℕ) → is_built_form (form_of f) ≡ true → CostsAs (Fir u f d) (fir_facts (form_of f) (taps_of f) (unwrap_or u 1) (unwrap_or d 1) bits)
 fir-costs u None d bits built = parallel-costs u None d refl
@@ -169,7 +193,7 @@ fir-gain Parallel taps up down bits built = same_magnitudes taps
 fir-gain Symmetric taps up down bits built = same_magnitudes taps
 fir-gain HalfBand taps up down bits built = absurd (cc)
 fir-gain (Folded slots) taps up down bits built = absurd (cc)
-fir-gain (Distributed group) taps up down bits built = absurd (cc)
+fir-gain (Distributed group) taps up down bits built = same_magnitudes taps
 
 one_more : (taps : List ℤ) (up : ℕ) → 0 < up → (longest : ℕ) → longest ≡ ceil_div (length taps) up + 1 → longest ≤ (length taps - 1) / up + 2
 one_more taps up some longest same = let fewer = ceil_div-fewer (length taps) up some in omega (arith, same, fewer)
@@ -180,7 +204,7 @@ form-short Symmetric taps None d flow bits built fits some = omega arith
 form-short Symmetric taps (Some factor) d flow bits built fits some = absurd (let alone = (mirror-fits (Some factor) taps d 0 flow fits).alone in cc)
 form-short HalfBand taps u d flow bits built fits some = absurd (cc)
 form-short (Folded slots) taps u d flow bits built fits some = absurd (cc)
-form-short (Distributed group) taps u d flow bits built fits some = absurd (cc)
+form-short (Distributed group) taps u d flow bits built fits some = omega arith
 
 -- as many as the values that the group remembers, and two more
 pub fir-short : (u : Option ℕ) (f : Option (List ℤ × Form)) (d : Option ℕ) (flow : Flow) (bits : ℕ) → is_built_form (form_of f) ≡ true → group_fits (Fir u f d) flow ≡ true → 0 < unwrap_or u 1

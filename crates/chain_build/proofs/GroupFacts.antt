@@ -29,7 +29,7 @@ up-is factor stages delay flow = record {
 }
 
 pub facts-is : (g : Group) (flow : Flow) (facts : StageFacts) → IsBuiltGroup g → group_fits g flow ≡ true → HasFacts g flow facts → IsFactsOf g flow facts
-facts-is (Fir u f d) flow facts is fits h = subst (IsFactsOf (Fir u f d) flow) (sym h) (fir-is u f d flow (wide flow.low flow.high) is fits)
+facts-is (Fir u f d) flow facts is fits h = subst (IsFactsOf (Fir u f d) flow) (sym h) (fir-is u f d flow is fits)
 facts-is (DownCic factor stages delay) flow facts is fits h = subst (IsFactsOf (DownCic factor stages delay) flow) (sym h) (down-is factor stages delay flow)
 facts-is (UpCic factor stages delay) flow facts is fits h = subst (IsFactsOf (UpCic factor stages delay) flow) (sym h) (up-is factor stages delay flow)
 facts-is (Rounding shift mode) flow facts is fits h = subst (IsFactsOf (Rounding shift mode) flow) (sym h) (rounding-is shift mode flow)

@@ -168,7 +168,7 @@ module _ {width ticks : ℕ} {whole : List Element} {old net : NetView} {from la
   done-prefix v = so.done_is v ∙ sym (chain-first whole front (groups rest) v so.parts)
 
   -- what they make of samples lies in the span
-  prefix-inside : (v : Sequence) → IsStream (chain prefix) width v → IsInSpan so.stream.low so.stream.high v
+  pub prefix-inside : (v : Sequence) → IsStream (chain prefix) width v → IsInSpan so.stream.low so.stream.high v
   prefix-inside v h =
       let is : v ≡ chain prefix (samples h.xs) = fun_ext h.is in
       subst (IsInSpan so.stream.low so.stream.high) (done-prefix (samples h.xs) ∙ sym is) (so.inside (samples h.xs) (the_samples h.xs h.fits))

@@ -19,7 +19,7 @@ use Rattle.chain_build.specs.Prefixes.{IsExactPrefix, CanTake, streams_before, e
 use Rattle.chain_build.proofs.ExactPrefixes.{prefix-linear, exact-prefix}
 use Rattle.chain_build.proofs.Prefixes.{sizes, sizes-within}
 use Rattle.chain_build.proofs.Samples.{AreSamples}
-use Rattle.chain_build.proofs.SoFar.{SoFar, span_low, span_high, below, above, fact_is, room_span, room_prefix, holds_prefix}
+use Rattle.chain_build.proofs.SoFar.{SoFar, span_low, span_high, below, above, fact_is, room_span, room_prefix, prefix-inside, holds_prefix}
 
 module _ {plan : Plan} {old net : NetView} {from last : Stream} {rest : List Element} {fact : GroupFacts} {left : List GroupFacts} {number : ℕ} {front : List Group} {g : Group} {others : List Element}
     (accepted : IsAccepted plan) (so : SoFar (size plan.width) (size plan.ticks) plan.elements old net from last rest (fact ∷ left) number front) (split : IsSplit rest g others) where
@@ -34,6 +34,7 @@ module _ {plan : Plan} {old net : NetView} {from last : Stream} {rest : List Ele
     some = let f = first-is in let e = so.first_is in omega (arith, f, e);
     below = below so split;
     above = above so split;
+    spans = λ v is. rw (span_low so split, span_high so split) (prefix-inside so split v (subst (λ (n : ℕ). IsStream (chain (take n plan.elements)) (size plan.width) v) taken-is is));
     room_span = rw (span_low so split, span_high so split) (room_span so split);
     prefix = λ none.
         subst (IsExactPrefix plan) (sym taken-is)

@@ -3,6 +3,7 @@ use Rattle.std.specs.Prelude.{◌≡◌, ℕ, ◌-◌, ◌≤◌, Bool, true, fa
 use Rattle.mr_values.specs.declared.plan.Element.{Element}
 use Rattle.mr_values.specs.declared.plan.Plan.{Plan}
 use Rattle.mr_values.specs.Timing.{Group}
+use Rattle.mr_values.specs.Sequence.{Sequence}
 use Rattle.mr_values.specs.Value.{IsWithinLimits, chain, size}
 use Rattle.plan_check.specs.declared.facts.GroupFacts.{GroupFacts}
 use Rattle.plan_check.specs.Amounts.{gain}
@@ -35,11 +36,16 @@ flow_before period fact = record { period = period; low = fact.span_lo; high = f
 abbrev pub elements_before : Plan → GroupFacts → List Element
 elements_before plan fact = take (fact.first - 1) plan.elements
 
+-- all values of the streams lie in the span before a group
+abbrev pub AreInSpan : Streams → GroupFacts → Type 0
+AreInSpan streams fact = (v : Sequence) → streams v → IsInSpan fact.span_lo fact.span_hi v
+
 -- the group can take the streams before it
 pub record CanTake (plan : Plan) (fact : GroupFacts) (g : Group) (rounded : Bool) : Type 0 where
   pub some : 1 ≤ fact.first
   pub below : fact.span_lo ≤ℤ pos 0
   pub above : pos 0 ≤ℤ fact.span_hi
+  pub spans : AreInSpan (IsStream (chain (elements_before plan fact)) (size plan.width)) fact
   pub room_span : HasRoom (IsInSpan fact.span_lo fact.span_hi) (gain g)
   pub prefix : rounded ≡ false → IsExactPrefix plan (fact.first - 1)
   pub room_prefix : HasRoom (IsStream (chain (elements_before plan fact)) (size plan.width)) (gain g)

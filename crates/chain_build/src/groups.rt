@@ -16,7 +16,7 @@ ghost use Rattle.chain_build.specs.Alike.{HasCascades};
 ghost use Rattle.chain_build.specs.Built.{AreBuiltGroups, kind_of, rounds, has_rounding};
 ghost use Rattle.chain_build.specs.LinearOn.{HasGroupRegisters};
 ghost use Rattle.chain_build.specs.Peaks.{AddsPeaks, HasGroupPeaks, keeps};
-ghost use Rattle.chain_build.specs.Prefixes.{IsExactPrefix, CanTake, streams_before, elements_before, flow_before};
+ghost use Rattle.chain_build.specs.Prefixes.{IsExactPrefix, AreInSpan, CanTake, streams_before, elements_before, flow_before};
 ghost use Rattle.chain_build.specs.Added.{CanAdd, KeepsGroup, IsGroupAdded, AreNameless, IsChained};
 ghost use Rattle.chain_build.specs.GroupCosts.{AreUngrouped, HasCosts};
 ghost use Rattle.chain_build.specs.Groups.{IsGroupedTo};
@@ -24,10 +24,10 @@ ghost use Rattle.chain_build.specs.Shapes.{HaveLinearItems};
 
 use crate::cascades::cascade_group;
 use crate::extremes::{LinearPeak, is_linear, keep_peaks};
-use crate::forms::add_filter;
+use crate::forms::{RatedFilter, add_filter};
 use crate::prefix::prefix_ranges;
 use crate::stages::emit_stage;
-use mr_values::{Form, Memory, Plan};
+use mr_values::{Form, Memory, Plan, least_width};
 use net_graph::{Net, Stream};
 use plan_check::{Facts, FirFilter, GroupFacts, PlanGroup, split_group};
 use rounding_stage::Rounding;
@@ -89,6 +89,7 @@ fn add_group<R: Ranges>(
     ranges: &R,
 ) -> Result<Added, Memory>
     requires can { CanAdd (group_of group.now) (flow_before from.period fact.now) net.old from }
+    requires spans { AreInSpan (R.streams ranges.now) fact.now }
     requires room { HasRoom (R.streams ranges.now) (gain (group_of group.now)) }
     ensures ok { IfOk result (λ a. IsGroupAdded (group_of group.now) (flow_before from.period fact.now) (R.streams ranges.now) net.old net.new from a) }
     ensures keeps { KeepsGroup net.old net.new }
@@ -101,11 +102,15 @@ fn add_group<R: Ranges>(
         }
         PlanGroup::Clip { .. } => unreachable!(),
         PlanGroup::Fir { filter, .. } => {
-            let rates = Rates {
-                up: group.up(),
-                down: group.down(),
+            let part = RatedFilter {
+                filter: filter_or_one(filter),
+                rates: Rates {
+                    up: group.up(),
+                    down: group.down(),
+                },
+                bits: least_width(fact.span_lo, fact.span_hi),
             };
-            add_filter(alloc, net, from, filter_or_one(filter), rates, ranges)
+            add_filter(alloc, net, from, &part, ranges)
         }
         PlanGroup::CicDown { .. } | PlanGroup::CicUp { .. } => {
             cascade_group(alloc, net, from, group, fact, ranges)
@@ -134,6 +139,7 @@ fn add_exact(
     requires can { CanAdd (group_of part.now.group.now) (flow_before from.period part.now.fact.now) net.old from }
     requires some { 1 ≤ part.now.fact.now.first }
     requires prefix { IsExactPrefix part.now.plan.now (part.now.fact.now.first - 1) }
+    requires spans { AreInSpan (IsStream (chain (elements_before part.now.plan.now part.now.fact.now)) (size part.now.plan.now.width)) part.now.fact.now }
     requires room { HasRoom (IsStream (chain (elements_before part.now.plan.now part.now.fact.now)) (size part.now.plan.now.width)) (gain (group_of part.now.group.now)) }
     ensures ok { IfOk result (λ a. IsGroupAdded (group_of part.now.group.now) (flow_before from.period part.now.fact.now) (IsStream (chain (elements_before part.now.plan.now part.now.fact.now)) (size part.now.plan.now.width)) net.old net.new from a) }
     ensures keeps { KeepsGroup net.old net.new }
