@@ -6,9 +6,9 @@ use Rattle.mr_values.specs.declared.plan.Element.TheVariants.{Up, Down, Filter, 
 use Rattle.mr_values.specs.declared.plan.Form.{Form}
 use Rattle.mr_values.specs.Timing.{Group, Fir, DownCic, UpCic, Rounding, Clipping, ceil_div, groups, join_up, join_filter, up_factor, down_factor}
 use Rattle.mr_values.specs.Value.{size}
-use Rattle.plan_check.specs.Costs.{memory_of}
+use Rattle.plan_check.specs.Costs.{memory_of, gcd}
 use Rattle.impulse_phase.specs.Reach.{Extent, extent_after, extent_after_all, extent}
-use Rattle.impulse_phase.specs.Response.{Cycle, common, cycle_after, cycle_after_all, full_cycle, AreLinear}
+use Rattle.impulse_phase.specs.Response.{Cycle, cycle_after, cycle_after_all, full_cycle, AreLinear}
 
 -- the classes and the samples of a round of them; the factors so far, and how many samples a value depends on
 pub record Measure : Type 0 where
@@ -25,7 +25,7 @@ abbrev pub raised : ℕ → Measure → Measure
 raised factor m = record { classes = m.classes * factor; step = m.step; up = m.up * factor; down = m.down; reach = m.reach }
 
 abbrev pub thinned : ℕ → Measure → Measure
-thinned factor m = record { classes = m.classes / common m.classes factor; step = factor / common m.classes factor * m.step; up = m.up; down = factor * m.down; reach = m.reach }
+thinned factor m = record { classes = m.classes / gcd m.classes factor; step = factor / gcd m.classes factor * m.step; up = m.up; down = factor * m.down; reach = m.reach }
 
 abbrev pub remembering : ℕ → Measure → Measure
 remembering steps m = record { classes = m.classes; step = m.step; up = m.up; down = m.down; reach = m.reach + ceil_div (steps * m.down) m.up }
