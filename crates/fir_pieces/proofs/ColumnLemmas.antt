@@ -1,6 +1,6 @@
 -- Registers with several sums.
-use Rattle.std.proofs.Common.{◌≡◌, ℕ, zero, suc, ◌+◌, ◌<◌, ◌≤◌, List, [], ◌∷◌, ◌++◌, length, map, max, refl, sym, ◌∙◌, ap, arith, inl, inr, subst, get_or, Some, slice_get}
-use Rattle.std.proofs.lemmas.List.{map-append, append_assoc, length-map}
+use Rattle.std.proofs.Common.{◌≡◌, ℕ, zero, suc, ◌<◌, List, [], ◌∷◌, ◌++◌, length, map, max, refl, sym, ◌∙◌, ap, arith, inl, inr, subst, get_or, Some, slice_get}
+use Rattle.std.proofs.lemmas.List.{map-append, length-map}
 use Rattle.std.proofs.lemmas.Option.{slice_get_within}
 use Rattle.net_graph.proofs.Lists.{slice_get_push_cases}
 use Rattle.net_graph.specs.WellFormed.{IsWidth}

@@ -1,12 +1,9 @@
 -- The registers of a filter are those of its list, and have the least widths.
-use Rattle.std.proofs.Common.{◌≡◌, ℕ, zero, suc, ◌+◌, ◌-◌, ◌*◌, ◌/◌, ◌<◌, ◌≤◌, max, List, [], ◌∷◌, ◌++◌, length, map, refl, sym, ◌∙◌, ap, arith, inl, inr, subst, ◌⊎◌, ℤ, pos, ◌-ℤ◌, Some, slice_get}
-use Rattle.std.proofs.lemmas.Bool.{cases_lt}
-use Rattle.std.proofs.lemmas.Int.{ints}
-use Rattle.std.proofs.lemmas.List.{map-append, length-map}
+use Rattle.std.proofs.Common.{◌≡◌, ℕ, zero, suc, ◌+◌, ◌*◌, ◌/◌, ◌<◌, ◌≤◌, max, List, [], ◌∷◌, ◌++◌, length, map, refl, sym, ◌∙◌, ap, arith, inl, inr, subst, ◌⊎◌, ℤ, Some, slice_get}
+use Rattle.std.proofs.lemmas.List.{length-map}
 use Rattle.std.proofs.lemmas.Option.{slice_get_within}
 use Rattle.std.proofs.lemmas.Nat.{div-add-mod'}
 use Rattle.std.proofs.lemmas.Nat.Gcd.{mod-eq-zero_of_dvd}
-use Rattle.mr_values.proofs.Polyphase.{weighted_sum-same}
 use Rattle.net_graph.specs.declared.cell.Cell.{Cell}
 use Rattle.net_graph.specs.declared.cell.Node.{Node}
 use Rattle.net_graph.specs.declared.cell.Stream.{Stream}
@@ -17,7 +14,6 @@ use Rattle.net_graph.specs.Cells.{NetView}
 use Rattle.net_graph.specs.Grow.{Extends}
 use Rattle.net_graph.specs.WellFormed.{IsFree}
 use Rattle.pipeline_balance.specs.Numbered.{IsCounted, LeavesFree, IsTouched, name_of}
-use Rattle.pipeline_balance.proofs.TakenLemmas.{taken}
 use Rattle.plan_check.specs.Costs.{gcd}
 use Rattle.plan_check.proofs.Divisors.{IsGcd-gcd}
 use Rattle.stage_law.specs.Facts.{StageFacts}
@@ -25,8 +21,6 @@ use Rattle.stage_law.specs.Least.{IsKeptWhole, HoldsSum, HasStageRegister, IsTim
 use Rattle.stage_law.specs.Realises.{IsOwnName, IsUnused}
 use Rattle.stage_law.specs.Registers.{HeldSum, StageRegister, Telling, TellsRanges, peaks_of}
 use Rattle.stage_law.specs.Streams.{Streams, AreCausal, magnitudes}
-use Rattle.stage_law.specs.Weights.{weights_of}
-use Rattle.stage_law.specs.Range.{IsRange}
 use Rattle.stage_law.specs.declared.ranges.Class.{Class}
 use Rattle.stage_law.specs.declared.stage.Peak.{Peak}
 use Rattle.fir_pieces.specs.declared.held.Held.{Held}

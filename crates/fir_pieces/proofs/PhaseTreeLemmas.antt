@@ -1,5 +1,5 @@
 -- Trees over nodes that show readings of a stream's values in each phase.
-use Rattle.std.proofs.Common.{◌≡◌, ℕ, suc, ◌+◌, ◌^◌, ◌<◌, ◌≤◌, List, [], ◌∷◌, length, map, get_or, refl, sym, ◌∙◌, ap, arith, subst, ℤ, pos, ◌-ℤ◌, ◌+ℤ◌, ◌*ℤ◌, All, Some, slice_get}
+use Rattle.std.proofs.Common.{◌≡◌, ℕ, suc, ◌+◌, ◌^◌, ◌<◌, List, [], ◌∷◌, length, map, get_or, refl, sym, ◌∙◌, ap, arith, subst, ℤ, pos, ◌-ℤ◌, ◌+ℤ◌, ◌*ℤ◌, All, Some, slice_get}
 use Rattle.std.proofs.lemmas.List.{length-map}
 use Rattle.mr_values.specs.Digit.{with_sign}
 use Rattle.mr_values.specs.Sequence.{weighted_sum}
@@ -20,7 +20,7 @@ use Rattle.fir_pieces.specs.Columns.{AreAllHeld}
 use Rattle.fir_pieces.specs.Form.{form_of, reading_form}
 use Rattle.fir_pieces.specs.FormSums.{times_form, terms_forms, held_forms, AllHold}
 use Rattle.fir_pieces.specs.Held.{held_sum}
-use Rattle.fir_pieces.specs.Moment.{Pace, IsPace, Forms, HoldsForms}
+use Rattle.fir_pieces.specs.Moment.{Pace, IsPace, Forms}
 use Rattle.fir_pieces.specs.PhaseSums.{sum_in_phase, sums_in_phases, ListsPhases, FitsSum, IsFormsWidth, ArePhasesTreeWidths, IsPhasesDue}
 use Rattle.fir_pieces.specs.Placed.{all_minus, leaf_of, term_segment}
 use Rattle.fir_pieces.specs.Reading.{ReadsWithin, reading_at, spread}
@@ -34,7 +34,7 @@ use Rattle.fir_pieces.proofs.HeldLemmas.{weighted_sum-form, weighted_sum-reading
 use Rattle.fir_pieces.proofs.PhaseDueLemmas.{phase_there}
 use Rattle.fir_pieces.proofs.ReadingLemmas.{shown_by, within_spread}
 use Rattle.fir_pieces.proofs.UnitLemmas.{short_weights}
-use Rattle.fir_pieces.proofs.WidthsLemmas.{slice_get_mapped, get_or-map, within_tree}
+use Rattle.fir_pieces.proofs.WidthsLemmas.{slice_get_mapped, get_or-map}
 
 -- what the nodes of a list show, from what they show in each phase
 abbrev pub shown_in : (ℕ → List Reading) → ℕ → Forms

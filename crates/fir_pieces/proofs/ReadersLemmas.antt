@@ -40,10 +40,9 @@ use Rattle.fir_pieces.specs.Cutting.{IsNarrowed, IsWideWindow, IsCutWindow}
 use Rattle.fir_pieces.specs.Form.{one_value, reading_form}
 use Rattle.fir_pieces.specs.Held.{IsFormWidth, AreHeld}
 use Rattle.fir_pieces.specs.Listed.{reading_sum, reading_sums}
-use Rattle.fir_pieces.specs.Peaks.{HoldsForm, IsDue}
+use Rattle.fir_pieces.specs.Peaks.{HoldsForm}
 use Rattle.fir_pieces.specs.Readers.{IsDataKind, at_node, IsCombined, TakesNext, TakesReading, AddsRegister, AddsRegisters, AddsReaders}
 use Rattle.fir_pieces.specs.Reading.{read, ReadsWithin, reading_adders, all_adders, terms_at}
-use Rattle.fir_pieces.proofs.DueLemmas.{HoldsForm-later, IsDue-later}
 use Rattle.fir_pieces.proofs.MomentLemmas.{HoldsForm-by}
 use Rattle.fir_pieces.proofs.HeldLemmas.{form_fits, taken_value-stream, weighted_sum-reading}
 use Rattle.fir_pieces.proofs.ReadingLemmas.{read_same, within_at}

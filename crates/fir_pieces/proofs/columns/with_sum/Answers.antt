@@ -1,4 +1,4 @@
-use Rattle.std.proofs.Common.{◌≡◌, ◌∙◌, ◌++◌, max, sym, ap}
+use Rattle.std.proofs.Common.{◌∙◌, max, sym, ap}
 use Rattle.fir_pieces.specs.Widest.{widest}
 use Rattle.fir_pieces.proofs.ColumnLemmas.{widest-push}
 use Rattle.fir_pieces.proofs.columns.with_sum.Goals as goal

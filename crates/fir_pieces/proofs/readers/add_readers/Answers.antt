@@ -1,4 +1,4 @@
-use Rattle.std.proofs.Common.{◌≡◌, ◌∙◌, ℕ, List, map, length, ap, subst}
+use Rattle.std.proofs.Common.{◌∙◌, ℕ, List, map, ap, subst}
 use Rattle.stage_law.specs.declared.ranges.Class.{Class}
 use Rattle.fir_pieces.specs.declared.held.Held.{Held}
 use Rattle.fir_pieces.specs.Held.{AreHeld}

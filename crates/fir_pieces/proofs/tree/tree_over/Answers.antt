@@ -1,4 +1,4 @@
-use Rattle.std.proofs.Common.{◌≡◌, ◌∙◌, ap, map, sym, subst, List, Some, slice_get}
+use Rattle.std.proofs.Common.{◌≡◌, ◌∙◌, ap, sym, subst, List, Some, slice_get}
 use Rattle.net_graph.specs.declared.cell.Leaf.{Leaf}
 use Rattle.pipeline_balance.specs.Leaves.{IsLeaf, IsNegatable, all_negative}
 use Rattle.fir_pieces.specs.Placed.{leaf_of}

@@ -1,4 +1,4 @@
-use Rattle.std.proofs.Common.{◌≡◌, ◌∙◌, ℕ, suc, ◌+◌, ap, subst, arith}
+use Rattle.std.proofs.Common.{◌≡◌, ℕ, suc, ◌+◌, subst, arith}
 use Rattle.fir_pieces.specs.Form.{form_of}
 use Rattle.fir_pieces.specs.Held.{IsHeld}
 use Rattle.fir_pieces.proofs.WidthsLemmas.{AreSmall-segment, AddsHeld-none, AddsHeld-push}

@@ -2,7 +2,6 @@ use Rattle.std.proofs.Common.{◌≡◌, ◌∙◌, ◌+◌, ◌++◌, ◌∷◌
 use Rattle.std.proofs.Math.Seq.{take-suc}
 use Rattle.std.proofs.lemmas.List.{map-append}
 use Rattle.stage_law.specs.Registers.{HeldSum}
-use Rattle.fir_pieces.specs.declared.reading.Reading.{Reading}
 use Rattle.fir_pieces.specs.declared.reading.Reading.TheVariants.{One}
 use Rattle.fir_pieces.specs.Form.{reading_form}
 use Rattle.fir_pieces.specs.Held.{AreHeld}
