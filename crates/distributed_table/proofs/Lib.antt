@@ -12,3 +12,4 @@ pub mod ShownLemmas
 pub mod AroundLemmas
 pub mod StageLemmas
 pub mod ReadyLemmas
+pub mod RootLemmas
