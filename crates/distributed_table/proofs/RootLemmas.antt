@@ -3,6 +3,7 @@ use Rattle.std.proofs.Common.{◌≡◌, ℕ, ◌+◌, ◌*◌, ◌^◌, ◌<◌
 use Rattle.std.specs.Prelude.{unsigned_abs}
 use Rattle.std.proofs.lemmas.Option.{slice_get_within}
 use Rattle.std.proofs.Math.Nat.{mul-le-mul_right}
+use Rattle.mr_values.specs.Timing.{ceil_div}
 use Rattle.mr_values.specs.Value.{AreTaps}
 use Rattle.net_graph.specs.declared.cell.Cell.{Cell}
 use Rattle.net_graph.specs.declared.cell.Leaf.{Leaf}
@@ -20,7 +21,8 @@ use Rattle.stage_law.specs.declared.ranges.Range.{Range}
 use Rattle.fir_pieces.proofs.GainLemmas.{gain_small}
 use Rattle.distributed_table.specs.Around.{IsAround}
 use Rattle.distributed_table.specs.Copies.{node_at}
-use Rattle.distributed_table.specs.Runs.{IsRunReady, Pace, Serial, SumsRun}
+use Rattle.distributed_table.specs.Facts.{runs_of}
+use Rattle.distributed_table.specs.Runs.{AddsRuns, IsRunReady, Pace, Serial, SumsRun, serial_of}
 use Rattle.distributed_table.specs.Shown.{AddsShown, IsShownName}
 
 -- ---- numbers
@@ -71,3 +73,16 @@ leaf_of_run {cells} {group} {number} {leaf} serial pace window s =
     let most = s.most in
     let whole = s.whole in
     record { within = slice_get_within cells leaf.node.place r.cell r.there; wide = omega (arith, own, some); shifts = omega (arith, own, most, whole) }
+
+-- ---- what the calls told of slices, of the lists themselves
+
+pub runs_of_lists : {first middle : NetView} {values : Range} {begin : Node} {leaves : List Leaf} (size : ℕ) (seen taps : List ℤ) (shown highs : List Node) → seen ≡ taps → shown ≡ highs
+    → ((pace : Pace) (window : List Node) (bits : ℕ) → IsRunReady first.cells pace bits window shown begin → AddsRuns first middle (serial_of seen size bits values) pace window shown (ceil_div (length seen) size) leaves)
+    → (pace : Pace) (window : List Node) (bits : ℕ) → IsRunReady first.cells pace bits window highs begin → AddsRuns first middle (serial_of taps size bits values) pace window highs (runs_of size taps) leaves
+runs_of_lists {first} {middle} {values} {begin} {leaves} size seen taps shown highs are_taps are_highs told pace window bits ready =
+    let here = told pace window bits (subst (λ (ns : List Node). IsRunReady first.cells pace bits window ns begin) (sym are_highs) ready) in
+    let of_highs = subst (λ (ns : List Node). AddsRuns first middle (serial_of seen size bits values) pace window ns (ceil_div (length seen) size) leaves) are_highs here in
+    subst (λ (cs : List ℤ). AddsRuns first middle (serial_of cs size bits values) pace window highs (ceil_div (length cs) size) leaves) are_taps of_highs
+
+pub many_of_lists : (size : ℕ) (seen taps : List ℤ) (shown leaves : List Leaf) → seen ≡ taps → shown ≡ leaves → length leaves ≡ ceil_div (length seen) size → length shown ≡ runs_of size taps
+many_of_lists size seen taps shown leaves are_taps are_leaves many = ap length are_leaves ∙ many ∙ ap (λ (cs : List ℤ). ceil_div (length cs) size) are_taps
