@@ -34,7 +34,10 @@ use Rattle.bit_serial.proofs.EndLemmas.{entry_ends}
 use Rattle.distributed_table.specs.Choices.{SumsFit, AddsChoices, AddsTable}
 use Rattle.distributed_table.specs.Copies.{node_at}
 use Rattle.distributed_table.specs.Parts.{AddsPart}
-use Rattle.distributed_table.proofs.NameLemmas.{AddsPart-named, named_extends}
+use Rattle.distributed_table.proofs.NameLemmas.{AddsPart-named, named_extends, named_tables}
+use Rattle.distributed_table.proofs.OwnTableLemmas.{HasTables-grown}
+use Rattle.net_graph.specs.Count.{is_adder}
+use Rattle.net_graph.specs.Name.{is_input}
 use Rattle.distributed_table.proofs.PartLemmas.{AddsPart-plain, AddsPart-then}
 
 pub fits_between : (w : ℕ) (lo v hi : ℤ) → FitsWidth w lo → FitsWidth w hi → lo ≤ℤ v → v ≤ℤ hi → FitsWidth w v
@@ -90,6 +93,7 @@ AddsChoices-end {old} {new} {root} {width} on so_far some wide f a =
       later = omega (arith, a.place);
       of_group = refl;
       nameless = refl;
+      no_adder = refl;
       wide = refl;
       plain = record { plain = λ bound ons. begins root.place _ (cell_of_added a) refl };
       sums = record {
@@ -153,6 +157,7 @@ module _ {a b d new : NetView} {yes no root : Node} {width : ℕ} (c : ℤ) (cs 
     later = omega (arith, m.place, y.part.grows.extends.longer, n.part.grows.extends.longer);
     of_group = d_group;
     nameless = refl;
+    no_adder = refl;
     wide = refl;
     plain = record { plain = choices_plain };
     sums = record { chosen = choices_sum };
@@ -217,6 +222,11 @@ AddsTable-named {old} {mid} {new} {root} {number} {width} {taps} {on} some p n =
     let longer : Extends mid.cells new.cells = named_extends number some inside nameless own n in
     record {
       part = whole;
+      tables = λ bound has.
+          let before = HasTables-grown p.part.grows bound (p.part.tabled ∙ omega arith) has in
+          let fresh = p.part.grows.added root.place p.cell p.later p.there in
+          let item_is = ap (λ (c : Cell). c.item) is in
+          named_tables number some inside nameless own n (ap is_adder item_is ∙ p.no_adder) (ap is_input item_is ∙ fresh.no_input) before;
       within = omega (arith, longer.longer, inside);
       plain = record {
         plain = λ bound ons. IsPlain-later mid.cells new.cells old.group (p.part.grows.bound bound) longer root.place (p.plain.plain bound ons);

@@ -1,6 +1,7 @@
 pub mod PartLemmas
 pub mod TickLemmas
 pub mod CopyLemmas
+pub mod OwnTableLemmas
 pub mod NameLemmas
 pub mod ChoiceLemmas
 pub mod SerialLemmas
@@ -9,3 +10,6 @@ pub mod RunLemmas
 pub mod TotalLemmas
 pub mod ShownLemmas
 pub mod AroundLemmas
+pub mod StageLemmas
+pub mod ReadyLemmas
+pub mod RootLemmas

@@ -6,7 +6,8 @@ use Rattle.net_graph.specs.declared.cell.Node.{Node}
 use Rattle.net_graph.specs.declared.name.Name.{Name}
 use Rattle.net_graph.specs.declared.name.NameKind.TheVariants.{Table}
 use Rattle.net_graph.specs.Cells.{NetView, cell_at}
-use Rattle.net_graph.specs.Count.{total, one_if, is_window, is_table, has_kind, adder, window, table}
+use Rattle.net_graph.specs.Tables.{HasTables}
+use Rattle.net_graph.specs.Count.{is_adder, total, one_if, is_window, is_table, has_kind, adder, window, table}
 use Rattle.net_graph.specs.Name.{is_control, is_control_name, is_input}
 use Rattle.net_graph.specs.Control.{IsControlClosed, ReadsControl}
 use Rattle.net_graph.specs.Grow.{Extends, Grows, IsAdded, HasOwnName, IsNamedAs, named_as}
@@ -132,6 +133,31 @@ module _ {mid new : NetView} {node : Node} {group : ℕ} (number : ℕ) (some : 
           other same_name
       | inr apart ↦ f.none place cell (other_there place cell apart there) is
     ];
+  }
+
+  -- the tables are those before and the node
+  pub named_tables : is_adder was.item ≡ false → is_input was.item ≡ false → HasTables mid.cells → HasTables new.cells
+  named_tables no_adder no_input has = record {
+    plain = record {
+      no_adder = λ place cell name there named is. elim (cases_eq place node.place) [
+        | inl at ↦ subst (λ (c : Cell). is_adder c.item ≡ false) (same_now place cell at there) no_adder
+        | inr apart ↦ has.plain.no_adder place cell name (other_there place cell apart there) named is
+      ];
+      no_input = λ place cell name there named is. elim (cases_eq place node.place) [
+        | inl at ↦ subst (λ (c : Cell). is_input c.item ≡ false) (same_now place cell at there) no_input
+        | inr apart ↦ has.plain.no_input place cell name (other_there place cell apart there) named is
+      ];
+    };
+    own = record {
+      own = λ place cell name there named is. elim (cases_eq place node.place) [
+        | inl at ↦
+            let found : now ≡ cell = same_now place cell at there in
+            let name_is : Some (name_of group Table number) ≡ Some name = ap (λ (c : Cell). c.name) found ∙ named in
+            let same_name : name_of group Table number ≡ name = cc in
+            sym (ap (λ (m : Name). m.group) same_name) ∙ sym own ∙ ap (λ (c : Cell). c.group) found
+        | inr apart ↦ has.own.own place cell name (other_there place cell apart there) named is
+      ];
+    };
   }
 
 -- a part whose last node gets the name of a table

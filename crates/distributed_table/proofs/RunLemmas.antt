@@ -34,6 +34,7 @@ use Rattle.distributed_table.specs.Serial.{accumulated, IsSerial, AddsAccumulato
 use Rattle.distributed_table.specs.Runs.{Serial, Pace, window_at, AreCopied, IsRunReady, SumsRun, IsNumbered, IsBelow, AreSelected, AddsRun, AddsRuns}
 use Rattle.distributed_table.proofs.CopyLemmas.{plain_high, SelectsRegister-later, ShowsBits-later}
 use Rattle.distributed_table.proofs.EndLemmas.{above_fits, in_taps, length-run, run_fits, run_within}
+use Rattle.distributed_table.proofs.OwnTableLemmas.{HasTables-grown}
 use Rattle.distributed_table.proofs.PartLemmas.{AddsPart-none, AddsPart-then, part_shallow}
 
 -- what is accumulated of the sums over the bits, from the highest
@@ -128,6 +129,7 @@ AddsRun-circuit {old} {mid} {new} {highs} {number} {width} {table} {sum} serial 
     record {
       part = AddsPart-then (λ name. name ≡ name_of old.group Table number) (λ name. name ≡ name_of mid.group Register number) (IsNumbered old.group number) (λ name e. (ap (λ (n : Name). n.group) e, ap (λ (n : Name). n.number) e))
           (λ name e. (ap (λ (n : Name). n.group) e ∙ same, ap (λ (n : Name). n.number) e)) t.part a.part;
+      tables = λ bound has. HasTables-grown a.part.grows (t.part.grows.bound bound) (a.part.tabled ∙ omega arith) (t.tables bound has);
       shallow = λ s plain.
           let s1 : IsShallow mid.cells mid.group = subst (λ (g : ℕ). IsShallow mid.cells g) (sym same) (part_shallow t.part s) in
           let table_plain : IsPlain mid.cells old.group table.place = t.plain.plain s.bound (λ k inside. ons k inside plain) in
@@ -153,7 +155,7 @@ AddsRun-circuit {old} {mid} {new} {highs} {number} {width} {table} {sum} serial 
 -- ---- all runs
 
 pub AddsRuns-none : (net : NetView) (serial : Serial) (pace : Pace) (window highs : List Node) → AddsRuns net net serial pace window highs 0 []
-AddsRuns-none net serial pace window highs = record { part = AddsPart-none net (IsBelow net.group 0); shallow = λ s plain. s; many = refl; each = λ k leaf is. absurd (cc) }
+AddsRuns-none net serial pace window highs = record { part = AddsPart-none net (IsBelow net.group 0); tables = λ bound has. has; shallow = λ s plain. s; many = refl; each = λ k leaf is. absurd (cc) }
 
 pub AddsRuns-push : {old mid new : NetView} {highs : List Node} {count : ℕ} {leaves : List Leaf} {leaf : Leaf} (serial : Serial) (pace : Pace) (window : List Node) → AddsRuns old mid serial pace window highs count leaves → AddsRun mid new serial pace window highs count leaf
     → AddsRuns old new serial pace window highs (count + 1) (leaves ++ leaf ∷ [])
@@ -163,6 +165,7 @@ AddsRuns-push {old} {mid} {new} {highs} {count} {leaves} {leaf} serial pace wind
     let part = AddsPart-then (IsBelow old.group count) (IsNumbered mid.group count) (IsBelow old.group (count + 1)) (λ name h. (h.0, let l = h.1 in omega arith)) (λ name h. (h.0 ∙ same, let n = h.1 in omega arith)) p.part a.part in
     record {
       part = subst (λ (k : ℕ). AddsPart old new (IsBelow old.group (count + 1)) k (count + 1)) adders part;
+      tables = λ bound has. a.tables (p.part.grows.bound bound) (p.tables bound has);
       shallow = λ s plain.
           let s1 : IsShallow mid.cells mid.group = subst (λ (g : ℕ). IsShallow mid.cells g) (sym same) (p.shallow s plain) in
           subst (λ (g : ℕ). IsShallow new.cells g) same (a.shallow s1 (AreSelected-later p.part.grows.extends plain));

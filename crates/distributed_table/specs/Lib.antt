@@ -7,3 +7,4 @@ pub mod Totals
 pub mod Shown
 pub mod Around
 pub mod Facts
+pub mod Stage

@@ -10,6 +10,8 @@ use Rattle.net_graph.specs.Cells.{NetView}
 use Rattle.net_graph.specs.Cut.{Cut, IsCut}
 use Rattle.net_graph.specs.Depth.{IsShallow}
 use Rattle.net_graph.specs.Run.{Values, IsRun}
+use Rattle.net_graph.specs.Tables.{HasTables}
+use Rattle.net_graph.specs.WellFormed.{IsBound}
 use Rattle.stage_law.specs.declared.ranges.Range.{Range}
 use Rattle.pipeline_balance.specs.Gate.{IsTickOf, IsBitOf}
 use Rattle.pipeline_balance.specs.Numbered.{IsRegister, name_of}
@@ -78,12 +80,14 @@ pub record AreSelected (cells : List Cell) (highs : List Node) : Type 0 where
 -- the new net has the table and the register of a run
 pub record AddsRun (old new : NetView) (serial : Serial) (pace : Pace) (window highs : List Node) (number : ℕ) (leaf : Leaf) : Type 0 where
   pub part : AddsPart old new (IsNumbered old.group number) 2 1
+  pub tables : IsBound old.cells → HasTables old.cells → HasTables new.cells
   pub shallow : IsShallow old.cells old.group → AreSelected old.cells highs → IsShallow new.cells old.group
   pub sums : SumsRun new.cells old.group serial pace window number leaf
 
 -- the new net has those of the first so many runs
 pub record AddsRuns (old new : NetView) (serial : Serial) (pace : Pace) (window highs : List Node) (count : ℕ) (leaves : List Leaf) : Type 0 where
   pub part : AddsPart old new (IsBelow old.group count) (count * 2) count
+  pub tables : IsBound old.cells → HasTables old.cells → HasTables new.cells
   pub shallow : IsShallow old.cells old.group → AreSelected old.cells highs → IsShallow new.cells old.group
   pub many : length leaves ≡ count
   pub each : (k : ℕ) (leaf : Leaf) → slice_get leaves k ≡ Some leaf → SumsRun new.cells old.group serial pace window k leaf

@@ -6,6 +6,10 @@ mod accumulators;
 mod around;
 mod choices;
 mod copies;
+mod distributed;
 mod runs;
 mod shown;
+mod stage;
 mod totals;
+
+pub use distributed::Distributed;

@@ -47,8 +47,8 @@ fn address_of<const G: usize>(highs: &[Node], first: usize) -> [Node; G]
     address
 }
 
-// The least width of a register for the sums of these taps over numbers of a range.
-fn width_of(taps: &[i128], values: Range) -> u8
+/// The least width of a register for the sums of these taps over numbers of a range.
+pub(crate) fn width_of(taps: &[i128], values: Range) -> u8
     requires small { max (unsigned_abs values.lo) (unsigned_abs values.hi) * magnitudes taps.now ≤ 2 ^ 125 }
     ensures least { IsLeastWidth (low_end taps.now values.lo values.hi) (low_end taps.now values.hi values.lo) result }
     ensures most { result ≤ 127 }
