@@ -2,7 +2,7 @@
 use Rattle.std.proofs.Common.{◌≡◌, ◌∙◌, ℕ, List, Option, Some, None, IsTrue, inl, inr, refl, subst}
 use Rattle.mr_values.specs.declared.host.HostCall.{HostCall}
 use Rattle.mr_values.specs.declared.host.FaultCounts.{FaultCounts}
-use Rattle.mr_values.specs.Faults.{IsRisen, count_of}
+use Rattle.mr_values.specs.Faults.{IsRisen, RaisesOnly}
 use Rattle.mr_values.specs.Files.{Files}
 use Rattle.mr_values.specs.Host.{HostState}
 use Rattle.command_files.specs.declared.fault.FileFault.{FileFault}
@@ -17,7 +17,7 @@ use Rattle.command_files.proofs.EndsKept.{kept_after}
 
 blamed_after : (call : Option HostCall) (old middle new : HostState) → middle.faults ≡ old.faults → IsBlamed call middle new → IsBlamed call old new
 blamed_after None old middle new same blamed = blamed ∙ same
-blamed_after (Some call) old middle new same blamed = subst (λ (counts : FaultCounts). IsRisen (count_of call counts) (count_of call new.faults)) same blamed
+blamed_after (Some call) old middle new same blamed = subst (λ (counts : FaultCounts). RaisesOnly call counts new.faults) same blamed
 
 struck_after : (IsRead IsReadMore : Files → List ℕ → Type 0) (call : Option HostCall) (old middle new : HostState) → middle.struck ≡ old.struck → (IsMissing IsReadMore middle.files → IsMissing IsRead old.files)
     → IsStruckFor IsReadMore call middle new → IsStruckFor IsRead call old new

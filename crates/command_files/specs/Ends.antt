@@ -3,7 +3,7 @@ use Rattle.std.specs.Prelude.{◌≡◌, ◌⊎◌, ℕ, ◌≤◌, List, IsTrue
 use Rattle.std.specs.FinMap.{get}
 use Rattle.mr_values.specs.declared.host.HostCall.{HostCall}
 use Rattle.mr_values.specs.declared.host.HostCall.TheVariants.{OpenInput}
-use Rattle.mr_values.specs.Faults.{IsRisen, count_of}
+use Rattle.mr_values.specs.Faults.{IsRisen, RaisesOnly}
 use Rattle.mr_values.specs.Files.{Files}
 use Rattle.mr_values.specs.Host.{HostState}
 use Rattle.command_files.specs.declared.fault.CommandFault.{CommandFault}
@@ -51,10 +51,10 @@ abbrev pub call_in_rows : {A : Type 0} → Result A RowsFault → Option HostCal
 call_in_rows (Ok value) = None
 call_in_rows (Err fault) = blamed_in_rows fault
 
--- A blamed call's count has risen. Where none is blamed, all counts are as before.
+-- A blamed call's count has risen, and no other: no call came after it. Where none is blamed, all counts are as before.
 abbrev pub IsBlamed : Option HostCall → HostState → HostState → Type 0
 IsBlamed None old new = new.faults ≡ old.faults
-IsBlamed (Some call) old new = IsRisen (count_of call old.faults) (count_of call new.faults)
+IsBlamed (Some call) old new = RaisesOnly call old.faults new.faults
 
 -- ---- which files are to be read, by the files and a name
 

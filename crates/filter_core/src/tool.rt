@@ -32,7 +32,7 @@ pub fn filter_tool<H: Host>(alloc: Global, words: &[String], host: &mut H) -> Ou
 
     // Words that are no command make no host call.
     ensures usage { (result.fault ≡ Some Fault.Usage) ↔ (command_of (map string_bytes words.now) ≡ None) }
-    ensures untouched { result.fault ≡ Some Fault.Usage → H.state host.new ≡ H.state host.old }
+    ensures untouched { result.fault ≡ Some Fault.Usage → host.new ≡ host.old }
 
     // A blamed host call has failed, and over told files it was struck, or a file isn't there.
     ensures cause { EndsWith (IsReadBy (command_of (map string_bytes words.now))) (blamed result.fault) (H.state host.old) (H.state host.new) }
@@ -61,7 +61,7 @@ pub fn filter_tool<H: Host>(alloc: Global, words: &[String], host: &mut H) -> Ou
 // The fault of the command that the words are, or of words that are none.
 fn answer<H: Host>(alloc: Global, words: &[String], host: &mut H) -> Option<Fault>
     ensures usage { (result ≡ Some Fault.Usage) ↔ (command_of (map string_bytes words.now) ≡ None) }
-    ensures untouched { result ≡ Some Fault.Usage → H.state host.new ≡ H.state host.old }
+    ensures untouched { result ≡ Some Fault.Usage → host.new ≡ host.old }
     ensures cause { EndsWith (IsReadBy (command_of (map string_bytes words.now))) (blamed result) (H.state host.old) (H.state host.new) }
     ensures plain { IfSome result IsPlainFault }
     ensures headline { (plan text report : List ℕ) → command_of (map string_bytes words.now) ≡ Some (compile_words plan text report) → IsTrue (H.state host.old).tells → result ≡ None

@@ -166,6 +166,7 @@ impl Lines {
         ensures more { self.old.ended ≤ self.new.ended }
         ensures few { self.new.ended < 2 ^ 32 }
         ensures stays { (f : LineFault) → self.old.fault ≡ Some f → result ≡ Err f }
+        ensures kept { IfErr result (λ fault. self.new.fault ≡ Some fault) }
         ensures none { OnOk result (self.new.fault ≡ None) }
     {
         match self.fault {
