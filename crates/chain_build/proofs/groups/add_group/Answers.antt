@@ -7,7 +7,7 @@ use Rattle.mr_values.specs.Width.{IsLeastWidth}
 use Rattle.plan_check.specs.declared.group.PlanGroup.{PlanGroup}
 use Rattle.plan_check.specs.Forms.{group_fits}
 use Rattle.plan_check.specs.Groups.{IsGroup, group_of}
-use Rattle.plan_check.proofs.LeastBits.{wide_least}
+use Rattle.mr_values.proofs.LeastBits.{wide_least}
 use Rattle.chain_build.specs.declared.groups.Added.{Added}
 use Rattle.chain_build.specs.Added.{IsGroupAdded}
 use Rattle.chain_build.specs.Prefixes.{flow_before}
