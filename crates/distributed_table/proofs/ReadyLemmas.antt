@@ -1,8 +1,8 @@
 -- How many runs there are, and what they ask.
-use Rattle.std.proofs.Common.{◌≡◌, ℕ, zero, suc, ◌+◌, ◌-◌, ◌*◌, ◌/◌, ◌%◌, ◌^◌, ◌<◌, ◌≤◌, min, List, length, refl, sym, ◌∙◌, ap, subst, arith, ℤ}
+use Rattle.std.proofs.Common.{◌≡◌, ℕ, zero, suc, ◌+◌, ◌*◌, ◌/◌, ◌%◌, ◌^◌, ◌<◌, ◌≤◌, min, List, length, ap, arith, ℤ}
 use Rattle.std.proofs.Math.Nat.{mul-le-mul_left}
 use Rattle.std.proofs.lemmas.Nat.{div-add-mod', mod_below}
-use Rattle.mr_values.specs.Timing.{ceil_div, ceil_log}
+use Rattle.mr_values.specs.Timing.{ceil_div}
 use Rattle.mr_values.proofs.Logarithm.{ceil_log_bound, ceil_log_power}
 use Rattle.distributed_table.specs.Facts.{levels_of, runs_of}
 use Rattle.distributed_table.proofs.EndLemmas.{ceil_same}

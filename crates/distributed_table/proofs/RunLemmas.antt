@@ -1,7 +1,5 @@
 -- The register of a run has its sum of products.
-use Rattle.std.proofs.Common.{◌≡◌, ℕ, zero, suc, ◌+◌, ◌*◌, ◌-◌, ◌≤◌, ◌<◌, List, length, refl, sym, ◌∙◌, ap, subst, arith, Some, slice_get, inl, inr, false, ℤ, pos, ◌-ℤ◌, ◌+ℤ◌, ◌*ℤ◌, ◌≤ℤ◌, [], ◌∷◌, ◌++◌, length-append}
-use Rattle.std.proofs.lemmas.Int.{ints}
-use Rattle.std.proofs.lemmas.Bool.{cases_lt}
+use Rattle.std.proofs.Common.{◌≡◌, ℕ, zero, suc, ◌+◌, ◌*◌, ◌-◌, ◌≤◌, ◌<◌, List, length, refl, sym, ◌∙◌, ap, subst, arith, inl, inr, false, ℤ, pos, ◌-ℤ◌, ◌+ℤ◌, ◌*ℤ◌, ◌≤ℤ◌, [], ◌∷◌, ◌++◌, length-append}
 use Rattle.mr_values.specs.Sequence.{weighted_sum}
 use Rattle.mr_values.specs.Timing.{low_end}
 use Rattle.mr_values.specs.Width.{IsLeastWidth}
@@ -15,20 +13,19 @@ use Rattle.net_graph.specs.Cut.{Cut, IsCut}
 use Rattle.net_graph.specs.Depth.{IsPlain, IsShallow}
 use Rattle.net_graph.specs.Grow.{Extends}
 use Rattle.net_graph.specs.Run.{Values, IsRun}
-use Rattle.net_graph.proofs.DepthLemmas.{IsPlain-later}
 use Rattle.net_graph.proofs.Lists.{slice_get_push_cases}
-use Rattle.net_graph.proofs.NetLemmas.{Extends-trans, Extends-refl}
+use Rattle.net_graph.proofs.NetLemmas.{Extends-trans}
 use Rattle.pipeline_balance.specs.Numbered.{IsRegister, name_of}
 use Rattle.pipeline_balance.proofs.NumberedLemmas.{IsRegister-later}
 use Rattle.pipeline_balance.proofs.TakenLemmas.{IsBitOf-later}
 use Rattle.bit_serial.specs.Bits.{bit_of, shifted}
 use Rattle.bit_serial.specs.Ends.{AllWithin}
 use Rattle.bit_serial.specs.Serial.{AllFit, bit_sum, sum_above}
-use Rattle.bit_serial.specs.Tables.{Shows, run, chosen_sum}
+use Rattle.bit_serial.specs.Tables.{Shows, run}
 use Rattle.bit_serial.proofs.RunLemmas.{entry_law}
 use Rattle.bit_serial.proofs.SerialLemmas.{first_step, next_step, whole_law}
 use Rattle.distributed_table.specs.Parts.{AddsPart, KeepsTheBits}
-use Rattle.distributed_table.specs.Copies.{SelectsRegister, ShowsBits, node_at}
+use Rattle.distributed_table.specs.Copies.{node_at}
 use Rattle.distributed_table.specs.Choices.{IsChosen, AddsTable}
 use Rattle.distributed_table.specs.Serial.{accumulated, IsSerial, AddsAccumulator}
 use Rattle.distributed_table.specs.Runs.{Serial, Pace, window_at, AreCopied, IsRunReady, SumsRun, IsNumbered, IsBelow, AreSelected, AddsRun, AddsRuns}

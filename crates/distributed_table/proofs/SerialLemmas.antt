@@ -15,7 +15,7 @@ use Rattle.net_graph.specs.Depth.{IsPlain, begins, passes, TakesPlain, IsShallow
 use Rattle.net_graph.specs.Grow.{Grows, Adds, AddsRegister, IsBoundTo}
 use Rattle.net_graph.specs.Run.{Values, IsRun}
 use Rattle.net_graph.proofs.Lists.{slice_get_push_cases, slice_get-set_other}
-use Rattle.net_graph.proofs.CellLemmas.{cell_at-is, same_cell}
+use Rattle.net_graph.proofs.CellLemmas.{same_cell}
 use Rattle.net_graph.proofs.CountLemmas.{adders_plain, adders_more, adders_register, adders_bind}
 use Rattle.net_graph.proofs.DepthLemmas.{IsPlain-later, IsShallow-adds}
 use Rattle.net_graph.proofs.GroupLemmas.{nameless_data}

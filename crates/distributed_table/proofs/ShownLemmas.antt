@@ -1,5 +1,5 @@
 -- The bits of a window in a net.
-use Rattle.std.proofs.Common.{◌≡◌, ℕ, suc, ◌+◌, ◌*◌, ◌^◌, ◌<◌, ◌≤◌, List, length, get_or, refl, sym, ◌∙◌, ap, subst, arith, inl, inr, Some, slice_get, ℤ, pos, ◌*ℤ◌, Bool, true, false}
+use Rattle.std.proofs.Common.{◌≡◌, ℕ, ◌+◌, ◌*◌, ◌^◌, ◌≤◌, List, length, refl, sym, ◌∙◌, ap, subst, arith, inl, inr, Some, slice_get, ℤ, pos, ◌*ℤ◌, Bool, true, false}
 use Rattle.std.proofs.lemmas.Int.{ints}
 use Rattle.std.proofs.lemmas.Option.{slice_get-get_or, slice_get_within}
 use Rattle.net_graph.specs.declared.cell.Cell.{Cell}
@@ -10,25 +10,21 @@ use Rattle.net_graph.specs.declared.name.Name.{Name}
 use Rattle.net_graph.specs.declared.name.NameKind.TheVariants.{Control, Copy, Window}
 use Rattle.net_graph.specs.Cells.{NetView, cell_at}
 use Rattle.net_graph.specs.Count.{adders_in, tables_in, windows_in}
-use Rattle.net_graph.specs.Cut.{Cut, IsCut}
 use Rattle.net_graph.specs.Grow.{Extends, Grows, Adds}
-use Rattle.net_graph.specs.Run.{Values, IsRun}
 use Rattle.net_graph.specs.WellFormed.{IsFree, IsWidth}
 use Rattle.net_graph.proofs.CellLemmas.{cell_at-is}
 use Rattle.net_graph.proofs.CountLemmas.{adders_plain}
 use Rattle.net_graph.proofs.GroupLemmas.{nameless_data}
 use Rattle.net_graph.proofs.GrowLemmas.{Grows-trans, Grows-data}
-use Rattle.net_graph.proofs.NetLemmas.{Extends-trans, cell_of_added}
-use Rattle.pipeline_balance.specs.Gate.{Holds, IsBitOf, IsCounter, IsTickOf, IsWindow}
+use Rattle.net_graph.proofs.NetLemmas.{cell_of_added}
+use Rattle.pipeline_balance.specs.Gate.{IsBitOf, IsCounter, IsTickOf, IsWindow}
 use Rattle.pipeline_balance.specs.Numbered.{IsCounted, IsTouched, LeavesFree, name_of}
 use Rattle.pipeline_balance.specs.Phase.{IsNarrow}
 use Rattle.pipeline_balance.proofs.CostLemmas.{SameNamed-adds}
 use Rattle.pipeline_balance.proofs.NumberedLemmas.{IsRegister-later, LeavesFree-trans, free_adds}
 use Rattle.pipeline_balance.proofs.TakenLemmas.{Holds-later, IsBitOf-later}
 use Rattle.distributed_table.specs.Copies.{AddsCopies, node_at}
-use Rattle.distributed_table.specs.Runs.{AreSelected, IsRunReady, Pace}
 use Rattle.distributed_table.specs.Shown.{AddsShown, IsShownName}
-use Rattle.distributed_table.proofs.CopyLemmas.{SelectsRegister-later, ShowsBits-later}
 
 -- the stream, cut
 abbrev pub cut_stream : Stream → Node → Stream

@@ -1,5 +1,5 @@
 -- The bits of a window, the registers of all runs and their sum realise a filter before a Down.
-use Rattle.std.proofs.Common.{◌≡◌, ℕ, zero, suc, ◌+◌, ◌-◌, ◌*◌, ◌^◌, ◌<◌, ◌≤◌, List, [], ◌∷◌, length, refl, sym, ◌∙◌, ap, arith, subst, inl, inr, Bool, true, false, cond, Some, slice_get, ℤ, pos, negsuc, ◌+ℤ◌, ◌-ℤ◌, ◌*ℤ◌, ◌≤ℤ◌}
+use Rattle.std.proofs.Common.{◌≡◌, ℕ, zero, suc, ◌+◌, ◌*◌, ◌^◌, ◌<◌, ◌≤◌, List, [], ◌∷◌, length, sym, ◌∙◌, ap, arith, subst, inl, inr, Bool, false, cond, Some, slice_get, ℤ, pos, negsuc, ◌-ℤ◌, ◌*ℤ◌, ◌≤ℤ◌}
 use Rattle.std.proofs.lemmas.Int.{ints}
 use Rattle.mr_values.specs.Sequence.{Sequence, weighted_sum}
 use Rattle.mr_values.specs.Timing.{low_end}
@@ -13,13 +13,12 @@ use Rattle.net_graph.specs.Cells.{NetView}
 use Rattle.net_graph.specs.Count.{adders_in, tables_in, windows_in}
 use Rattle.net_graph.specs.Cut.{Cut, IsCut, cut_all, cut_control}
 use Rattle.net_graph.specs.Depth.{IsShallow}
-use Rattle.net_graph.specs.Grow.{Grows}
 use Rattle.net_graph.specs.Run.{Values, IsRun}
 use Rattle.net_graph.proofs.CutLemmas.{IsCut-all, IsCut-control}
 use Rattle.net_graph.proofs.DepthLemmas.{IsShallow-none}
 use Rattle.net_graph.proofs.GrowLemmas.{Grows-trans}
-use Rattle.pipeline_balance.specs.Gate.{Carries, HasTaken, shown, taken_value}
-use Rattle.pipeline_balance.specs.Leaves.{all_negative, leaf_value, signed_by}
+use Rattle.pipeline_balance.specs.Gate.{Carries, HasTaken, taken_value}
+use Rattle.pipeline_balance.specs.Leaves.{leaf_value, signed_by}
 use Rattle.pipeline_balance.specs.Numbered.{IsTouched, LeavesFree}
 use Rattle.pipeline_balance.specs.Tree.{SumsFitAt, tree_adders}
 use Rattle.pipeline_balance.proofs.NumberedLemmas.{LeavesFree-trans}
@@ -39,7 +38,7 @@ use Rattle.distributed_table.specs.Around.{IsAround}
 use Rattle.distributed_table.specs.Copies.{node_at}
 use Rattle.distributed_table.specs.Facts.{HaveBits, TakesBits, distributed_facts, levels_of, runs_of}
 use Rattle.distributed_table.specs.Parts.{KeepsTheBits}
-use Rattle.distributed_table.specs.Runs.{AddsRuns, IsBelow, IsRunReady, Pace, serial_of, window_at}
+use Rattle.distributed_table.specs.Runs.{AddsRuns, IsBelow, IsRunReady, Pace, serial_of}
 use Rattle.distributed_table.specs.Shown.{AddsShown, IsShownName}
 use Rattle.distributed_table.specs.Totals.{AddsTotal}
 use Rattle.distributed_table.proofs.OwnTableLemmas.{HasTables-grown}

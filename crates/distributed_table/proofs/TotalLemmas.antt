@@ -1,25 +1,22 @@
 -- The sum of the registers of all runs, and between which ends its parts lie.
-use Rattle.std.proofs.Common.{◌≡◌, ℕ, zero, suc, ◌+◌, ◌*◌, ◌-◌, ◌^◌, ◌≤◌, ◌<◌, List, [], ◌∷◌, ◌++◌, length, take, drop, get_or, refl, sym, ◌∙◌, ap, subst, arith, Some, slice_get, Bool, true, false, cond, ℤ, pos, negsuc, ◌+ℤ◌, ◌*ℤ◌, ◌≤ℤ◌}
+use Rattle.std.proofs.Common.{◌≡◌, ℕ, zero, suc, ◌+◌, ◌*◌, ◌^◌, ◌≤◌, ◌<◌, List, [], ◌∷◌, ◌++◌, length, take, drop, get_or, refl, sym, ◌∙◌, ap, subst, arith, Some, slice_get, Bool, false, cond, ℤ, pos, negsuc, ◌+ℤ◌, ◌≤ℤ◌}
 use Rattle.std.proofs.lemmas.Int.{ints}
 use Rattle.std.proofs.lemmas.List.{take_all, take_more}
 use Rattle.std.proofs.lemmas.Option.{slice_get-get_or}
 use Rattle.mr_values.specs.Sequence.{weighted_sum}
-use Rattle.mr_values.specs.Timing.{least_term, low_end, high_end}
+use Rattle.mr_values.specs.Timing.{low_end, high_end}
 use Rattle.mr_values.specs.Width.{FitsWidth, IsLeastWidth}
 use Rattle.net_graph.specs.declared.cell.Leaf.{Leaf}
-use Rattle.net_graph.specs.declared.cell.Node.{Node}
-use Rattle.net_graph.specs.Cells.{NetView}
 use Rattle.net_graph.specs.Cut.{Cut, IsCut}
-use Rattle.net_graph.specs.Run.{Values, IsRun}
+use Rattle.net_graph.specs.Run.{Values}
 use Rattle.pipeline_balance.specs.Leaves.{all_negative, held_sum, leaf_value, segment, signed_by, signed_sum}
-use Rattle.pipeline_balance.specs.Tree.{SumsFitAt, count_to, level_count}
+use Rattle.pipeline_balance.specs.Tree.{SumsFitAt, count_to}
 use Rattle.pipeline_balance.proofs.SegmentLemmas.{count_to-mono, signed_sum-append}
 use Rattle.span_ranges.proofs.SumLemmas.{high_end-turned}
 use Rattle.bit_serial.specs.Ends.{AllWithin}
 use Rattle.bit_serial.specs.Tables.{run, sum_of_runs}
 use Rattle.bit_serial.proofs.EndLemmas.{ends_law}
 use Rattle.bit_serial.proofs.TableLemmas.{runs_law}
-use Rattle.distributed_table.specs.Totals.{AddsTotal}
 use Rattle.distributed_table.proofs.ChoiceLemmas.{fits_between}
 use Rattle.distributed_table.proofs.EndLemmas.{run_within}
 

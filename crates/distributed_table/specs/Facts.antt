@@ -1,8 +1,7 @@
 -- What a filter by distributed arithmetic before a Down is, as a stage.
-use Rattle.std.specs.Prelude.{◌≡◌, ℕ, ◌+◌, ◌-◌, ◌*◌, ◌^◌, ◌<◌, ◌≤◌, List, [], ◌∷◌, length, ℤ, pos}
+use Rattle.std.specs.Prelude.{ℕ, ◌+◌, ◌-◌, ◌*◌, ◌^◌, ◌<◌, ◌≤◌, List, [], ◌∷◌, length, ℤ, pos}
 use Rattle.mr_values.specs.Sequence.{Sequence}
 use Rattle.mr_values.specs.Width.{FitsWidth}
-use Rattle.mr_values.specs.declared.plan.Element.{Element}
 use Rattle.mr_values.specs.declared.plan.Element.TheVariants.{Down, Filter}
 use Rattle.mr_values.specs.declared.plan.Form.TheVariants.{Distributed}
 use Rattle.mr_values.specs.Timing.{ceil_div, ceil_log}

@@ -1,5 +1,5 @@
 -- The bits of a window, shown from the highest.
-use Rattle.std.specs.Prelude.{◌≡◌, ℕ, ◌+◌, ◌*◌, ◌<◌, ◌≤◌, ◌⊎◌, false, ℤ, pos, ◌*ℤ◌, ◌^◌, List, length, Some, slice_get}
+use Rattle.std.specs.Prelude.{◌≡◌, ℕ, ◌+◌, ◌*◌, ◌<◌, ◌≤◌, ◌⊎◌, false, ℤ, List, length}
 use Rattle.net_graph.specs.declared.cell.Node.{Node}
 use Rattle.net_graph.specs.declared.cell.Stream.{Stream}
 use Rattle.net_graph.specs.declared.name.Name.{Name}

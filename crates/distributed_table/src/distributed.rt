@@ -19,7 +19,11 @@ use net_graph::{Net, Node, Stream};
 use stage_law::Ranges;
 use std::alloc::Global;
 
-/// A filter before a Down, whose taps are cut into runs of G, over a stream of so many bits.
+/// A filter before a Down in distributed arithmetic. Its taps are cut into runs of G, from 1 to 6; the last run may be shorter. Each run has a
+/// table of the sums of its subsets of taps, addressed by one bit of each of the run's values, and an accumulator that adds up the table's
+/// answers from the highest bit, which it subtracts, to the lowest. A tree of registers adds the accumulators. A result is given for every
+/// `down` values of the stream. Each bit takes one tick, so it takes streams whose results stand at least `bits` ticks apart, and whose values
+/// have at most `bits` bits in two's complement.
 #[derive(Drop)]
 pub struct Distributed<const G: usize> {
     pub(crate) taps: Vec<i128>,
@@ -61,7 +65,8 @@ impl<const G: usize> Distributed<G> {
     ghost use Rattle.std.specs.Prelude.{IfOk};
     ghost use Rattle.distributed_table.specs.Facts.{distributed_facts};
 
-    /// The filter with these taps before a Down of this factor, over a stream of so many bits. Fails only for want of memory.
+    /// The filter with these taps, 1 to 1,024 of them and of magnitude at most 2^62, before a Down of this factor, from 1 to 4,096, over a stream
+    /// whose values have so many bits, from 1 to 128. Fails only for want of memory.
     pub fn new(alloc: Global, taps: &[i64], down: u32, bits: u8) -> Result<Distributed<G>, Memory>
         requires taps { AreTaps taps.now }
         requires some { 1 ≤ G }
@@ -70,7 +75,9 @@ impl<const G: usize> Distributed<G> {
         requires down_high { down ≤ 4096 }
         requires bits_low { 1 ≤ bits }
         requires bits_high { bits ≤ 128 }
-        ensures { IfOk result (λ d. distributed_facts G d.taps.items d.down d.bits ≡ distributed_facts G taps.now down bits) }
+        ensures facts { IfOk result (λ d. distributed_facts G d.taps.items d.down d.bits ≡ distributed_facts G taps.now down bits) }
+        ensures down { IfOk result (λ d. d.down ≡ down) }
+        ensures bits { IfOk result (λ d. d.bits ≡ bits) }
     {
         let levels = levels_over(taps.len(), G);
         let taps = widened_taps(alloc, taps)?;

@@ -13,3 +13,6 @@ mod stage;
 mod totals;
 
 pub use distributed::Distributed;
+
+#[cfg(test)]
+mod tests;

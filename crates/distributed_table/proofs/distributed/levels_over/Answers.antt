@@ -1,4 +1,4 @@
-use Rattle.std.proofs.Common.{◌≡◌, ◌∙◌, ap}
+use Rattle.std.proofs.Common.{◌∙◌, ap}
 use Rattle.mr_values.specs.Timing.{ceil_log}
 use Rattle.distributed_table.proofs.EndLemmas.{ceil_same}
 use Rattle.distributed_table.proofs.distributed.levels_over.Goals as goal

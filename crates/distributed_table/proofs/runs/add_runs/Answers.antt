@@ -1,14 +1,10 @@
-use Rattle.std.proofs.Common.{◌≡◌, ◌∙◌, ap, sym, subst, arith, refl, ℕ, suc, ◌+◌, ◌*◌, ◌≤◌, ◌<◌, List, length, length-append, ℤ}
-use Rattle.mr_values.specs.Timing.{ceil_div}
-use Rattle.net_graph.specs.declared.cell.Node.{Node}
-use Rattle.net_graph.specs.declared.name.Name.{Name}
+use Rattle.std.proofs.Common.{◌≡◌, ◌∙◌, sym, subst, arith, refl, ℕ, suc, ◌+◌, length, length-append}
 use Rattle.net_graph.specs.declared.name.NameKind.TheVariants.{Register, Table}
 use Rattle.net_graph.specs.WellFormed.{IsFree}
 use Rattle.net_graph.proofs.NetLemmas.{Extends-refl, Extends-trans}
 use Rattle.pipeline_balance.specs.Numbered.{LeavesFree, name_of}
 use Rattle.pipeline_balance.proofs.NumberedLemmas.{LeavesFree-refl, LeavesFree-trans}
-use Rattle.distributed_table.specs.Copies.{node_at}
-use Rattle.distributed_table.specs.Runs.{Pace, IsRunReady, IsNumbered, IsBelow, serial_of, AddsRuns}
+use Rattle.distributed_table.specs.Runs.{IsNumbered, IsBelow, serial_of, AddsRuns}
 use Rattle.distributed_table.proofs.EndLemmas.{ceil_same}
 use Rattle.distributed_table.proofs.RunLemmas.{AddsRuns-none, AddsRuns-push, IsRunReady-later}
 use Rattle.distributed_table.proofs.runs.add_runs.Goals as goal

@@ -1,6 +1,5 @@
 use Rattle.std.proofs.Common.{◌≡◌, ℕ, List, length}
 use Rattle.net_graph.specs.declared.cell.Node.{Node}
-use Rattle.net_graph.specs.declared.name.Name.{Name}
 use Rattle.net_graph.specs.Grow.{Extends}
 use Rattle.pipeline_balance.specs.Numbered.{LeavesFree}
 use Rattle.distributed_table.specs.Runs.{Pace, IsRunReady, IsBelow, serial_of, AddsRuns}

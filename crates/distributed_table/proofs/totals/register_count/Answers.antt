@@ -1,4 +1,4 @@
-use Rattle.std.proofs.Common.{◌≡◌, ◌∙◌, ap, sym, subst, refl, arith, ℕ, suc, ◌+◌, ◌/◌, ◌*◌, ◌≤◌}
+use Rattle.std.proofs.Common.{◌≡◌, ◌∙◌, ap, sym, subst, refl, arith, ℕ, suc, ◌+◌, ◌/◌}
 use Rattle.pipeline_balance.specs.Tree.{count_to, level_count}
 use Rattle.pipeline_balance.proofs.SegmentLemmas.{level_count-zero, level_count-suc}
 use Rattle.distributed_table.proofs.totals.register_count.Goals as goal

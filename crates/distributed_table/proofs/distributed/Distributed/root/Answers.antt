@@ -1,13 +1,12 @@
-use Rattle.std.proofs.Common.{◌≡◌, ◌∙◌, ℕ, ◌+◌, ◌*◌, ◌^◌, ◌≤◌, ◌<◌, List, length, sym, ap, subst, arith, Some, slice_get, false, ℤ}
+use Rattle.std.proofs.Common.{◌≡◌, ℕ, ◌+◌, ◌*◌, ◌^◌, ◌≤◌, List, length, sym, subst, arith, Some, slice_get, ℤ}
 use Rattle.mr_values.specs.Timing.{low_end}
 use Rattle.mr_values.specs.Width.{IsLeastWidth}
 use Rattle.net_graph.specs.declared.cell.Leaf.{Leaf}
-use Rattle.net_graph.specs.declared.cell.Node.{Node}
 use Rattle.net_graph.specs.declared.name.NameKind.TheVariants.{Register, Table, Window}
 use Rattle.net_graph.proofs.NetLemmas.{Extends-trans}
 use Rattle.stage_law.specs.Streams.{magnitudes}
-use Rattle.distributed_table.specs.Facts.{levels_of, runs_of}
-use Rattle.distributed_table.specs.Runs.{AddsRuns, Pace, serial_of}
+use Rattle.distributed_table.specs.Facts.{runs_of}
+use Rattle.distributed_table.specs.Runs.{Pace, serial_of}
 use Rattle.distributed_table.specs.Shown.{AddsShown}
 use Rattle.distributed_table.specs.Totals.{AddsTotal}
 use Rattle.distributed_table.proofs.ReadyLemmas.{levels_deep, levels_low, runs_cover, runs_some}

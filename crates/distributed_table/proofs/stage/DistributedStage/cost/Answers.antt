@@ -1,6 +1,5 @@
-use Rattle.std.proofs.Common.{◌≡◌, ◌∙◌, ◌*◌, ◌-◌, ℕ, ap, length, sym}
+use Rattle.std.proofs.Common.{◌≡◌, ◌∙◌, ◌*◌, ◌-◌, ℕ, ap, length}
 use Rattle.mr_values.specs.Timing.{ceil_div}
-use Rattle.distributed_table.specs.Facts.{runs_of}
 use Rattle.distributed_table.proofs.EndLemmas.{ceil_same}
 use Rattle.distributed_table.proofs.stage.DistributedStage.cost.Goals as goal
 

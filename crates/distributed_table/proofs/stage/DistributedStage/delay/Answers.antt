@@ -1,5 +1,4 @@
-use Rattle.std.proofs.Common.{◌≡◌, ◌≤◌, arith}
-use Rattle.distributed_table.specs.Facts.{levels_of}
+use Rattle.std.proofs.Common.{arith}
 use Rattle.distributed_table.proofs.ReadyLemmas.{levels_low}
 use Rattle.distributed_table.proofs.stage.DistributedStage.delay.Goals as goal
 

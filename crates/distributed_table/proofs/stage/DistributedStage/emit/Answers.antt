@@ -1,4 +1,4 @@
-use Rattle.std.proofs.Common.{◌≡◌, ◌≤◌, ◌+◌, ◌*◌, ◌∙◌, ℕ, ap, arith}
+use Rattle.std.proofs.Common.{◌+◌, ◌*◌, ◌∙◌, ℕ, ap, arith}
 use Rattle.net_graph.specs.declared.cell.Stream.{Stream}
 use Rattle.distributed_table.proofs.ReadyLemmas.{levels_low}
 use Rattle.distributed_table.proofs.stage.DistributedStage.emit.Goals as goal
