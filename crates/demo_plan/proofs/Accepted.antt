@@ -23,7 +23,7 @@ use Rattle.plan_check.specs.declared.fault.CostWhich.TheVariants.{Terms, Latency
 use Rattle.plan_check.specs.Limits.{limit_test, taps_test, cic_test, limits_test, element_test}
 use Rattle.plan_check.specs.Amounts.{rate_test, peak_test, peak_after, bound_test, magnitude, error_after, no_error}
 use Rattle.plan_check.specs.Costs.{over, Spread, Tally, spread_after, spread_test, linear_test, linear_spread, cost_test, tally_after, terms_of, memory_of, gcd}
-use Rattle.plan_check.specs.Accepted.{rates_test, peaks_test, bounds_test, costs_test, no_tally, IsAccepted}
+use Rattle.plan_check.specs.Accepted.{rates_test, peaks_test, errors_test, costs_test, no_tally, IsAccepted}
 use Rattle.plan_check.proofs.Acceptance.{accepted_from}
 use Rattle.plan_check.proofs.Logarithm.{ceil_log_small}
 use Rattle.plan_check.proofs.TermSums.{terms_whole}
@@ -197,7 +197,7 @@ peaks_pass f s d taps h =
 
 -- ---- the bound
 
-bounds_pass : (f s d : ℕ) (taps : List ℤ) → bounds_test (drawn_groups f s d taps) ≡ None
+bounds_pass : (f s d : ℕ) (taps : List ℤ) → errors_test (drawn_groups f s d taps) ≡ None
 bounds_pass f s d taps =
     let one = error_after (first_group f s d) no_error in
     let two = error_after (second_group taps) one in

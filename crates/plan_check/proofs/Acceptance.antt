@@ -9,7 +9,7 @@ use Rattle.plan_check.specs.Accepted.{rates_test, peaks_test, bounds_test, fits_
 use Rattle.plan_check.proofs.Options.{after_none}
 
 accepted_at : (plan : Plan) (width ticks : ℕ) → width ≡ size plan.width → ticks ≡ size plan.ticks
-    → None ≡ limits_test plan → None ≡ rates_test ticks (groups plan.elements) → None ≡ peaks_test width (groups plan.elements) → None ≡ bounds_test (groups plan.elements)
+    → None ≡ limits_test plan → None ≡ rates_test ticks (groups plan.elements) → None ≡ peaks_test width (groups plan.elements) → None ≡ bounds_test plan.elements
     → None ≡ fits_test width ticks (groups plan.elements) → costs_test width ticks (groups plan.elements) ≡ None → IsAccepted plan
 accepted_at plan width ticks w k limits rates peaks bounds fits costs =
     let gs = groups plan.elements in
@@ -23,12 +23,12 @@ accepted_at plan width ticks w k limits rates peaks bounds fits costs =
     }
 
 pub accepted_from : (plan : Plan) (elements : List Element) (width ticks : ℕ) → elements ≡ plan.elements → width ≡ size plan.width → ticks ≡ size plan.ticks
-    → None ≡ limits_test plan → None ≡ rates_test ticks (groups elements) → None ≡ peaks_test width (groups elements) → None ≡ bounds_test (groups elements)
+    → None ≡ limits_test plan → None ≡ rates_test ticks (groups elements) → None ≡ peaks_test width (groups elements) → None ≡ bounds_test elements
     → None ≡ fits_test width ticks (groups elements) → costs_test width ticks (groups elements) ≡ None → IsAccepted plan
 accepted_from plan elements width ticks e w k limits rates peaks bounds fits costs =
     accepted_at plan width ticks w k limits
     (subst (λ (es : List Element). None ≡ rates_test ticks (groups es)) e rates)
     (subst (λ (es : List Element). None ≡ peaks_test width (groups es)) e peaks)
-    (subst (λ (es : List Element). None ≡ bounds_test (groups es)) e bounds)
+    (subst (λ (es : List Element). None ≡ bounds_test es) e bounds)
     (subst (λ (es : List Element). None ≡ fits_test width ticks (groups es)) e fits)
     (subst (λ (es : List Element). costs_test width ticks (groups es) ≡ None) e costs)

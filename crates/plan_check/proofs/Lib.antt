@@ -7,6 +7,7 @@ pub mod Mirrors
 pub mod Narrow
 pub mod Options
 pub mod Products
+pub mod Shifts
 pub mod Sums
 pub mod TermSums
 pub mod Walks

@@ -1,9 +1,9 @@
 -- Which plans are accepted, the first fault of one that is not, and the facts of one that is.
-use Rattle.std.specs.Prelude.{◌≡◌, ℕ, ◌+◌, ◌-◌, ◌^◌, List, [], ◌∷◌, Option, None, Some}
+use Rattle.std.specs.Prelude.{◌≡◌, ℕ, ◌+◌, ◌-◌, ◌^◌, if◌then◌else◌, List, [], ◌∷◌, Option, None, Some}
 use Rattle.std.specs.Option.{option_or}
 use Rattle.mr_values.specs.declared.plan.Element.{Element}
 use Rattle.mr_values.specs.declared.plan.Plan.{Plan}
-use Rattle.mr_values.specs.Value.{size}
+use Rattle.mr_values.specs.Value.{size, has_clip}
 use Rattle.mr_values.specs.Timing.{Group, groups, Stream, input, after, period_after, group_delay, up_factor, down_factor, latency, last_stream}
 use Rattle.plan_check.specs.declared.fault.PlanFault.{PlanFault}
 use Rattle.plan_check.specs.declared.facts.Facts.{Facts}
@@ -22,8 +22,15 @@ rates_test ticks gs = first_failing rate_test period_after 1 ticks gs
 abbrev pub peaks_test : ℕ → List Group → Option PlanFault
 peaks_test width gs = first_failing peak_test peak_after 1 (2 ^ (width - 1)) gs
 
-abbrev pub bounds_test : List Group → Option PlanFault
-bounds_test gs = first_failing bound_test error_after 1 no_error gs
+abbrev pub errors_test : List Group → Option PlanFault
+errors_test gs = first_failing bound_test error_after 1 no_error gs
+
+-- a plan that clips has no bound, whatever its roundings are
+abbrev pub bounds_test : List Element → Option PlanFault
+bounds_test elements = if has_clip elements then None else errors_test (groups elements)
+
+abbrev pub bound_of : List Element → Option ℕ
+bound_of elements = if has_clip elements then None else Some (error_after_all (groups elements) no_error).bound
 
 abbrev pub fits_test : ℕ → ℕ → List Group → Option PlanFault
 fits_test width ticks gs = first_failing fit_test flow_after 1 (flow_of (input width ticks)) gs
@@ -36,13 +43,14 @@ costs_test width ticks gs = first_failing (cost_test ticks) (tally_after ticks) 
 
 -- ---- plans
 
-abbrev pub groups_test : ℕ → ℕ → List Group → Option PlanFault
-groups_test width ticks gs =
-    option_or (rates_test ticks gs) (option_or (peaks_test width gs) (option_or (bounds_test gs) (option_or (fits_test width ticks gs) (costs_test width ticks gs))))
+abbrev pub groups_test : ℕ → ℕ → List Element → Option PlanFault
+groups_test width ticks elements =
+    let gs = groups elements in
+    option_or (rates_test ticks gs) (option_or (peaks_test width gs) (option_or (bounds_test elements) (option_or (fits_test width ticks gs) (costs_test width ticks gs))))
 
 -- the first test that fails
 abbrev pub first_fault : Plan → Option PlanFault
-first_fault plan = option_or (limits_test plan) (groups_test (size plan.width) (size plan.ticks) (groups plan.elements))
+first_fault plan = option_or (limits_test plan) (groups_test (size plan.width) (size plan.ticks) plan.elements)
 
 pub record IsAccepted (plan : Plan) : Type 0 where
   pub passes : first_fault plan ≡ None
@@ -71,7 +79,7 @@ group_facts first s (g ∷ gs) = facts_of first s g ∷ group_facts (first + siz
 pub record AreFacts (width ticks : ℕ) (elements : List Element) (facts : Facts) : Type 0 where
   pub latency_is : facts.latency ≡ latency width ticks elements
   pub period_is : facts.period ≡ (last_stream width ticks elements).period
-  pub bound_is : facts.bound ≡ (error_after_all (groups elements) no_error).bound
+  pub bound_is : facts.bound ≡ bound_of elements
   pub shift_is : facts.shift ≡ (error_after_all (groups elements) no_error).shift
   pub low_is : facts.end_lo ≡ (last_stream width ticks elements).low
   pub high_is : facts.end_hi ≡ (last_stream width ticks elements).high

@@ -85,5 +85,17 @@ error_after_all (g ∷ gs) e = error_after_all gs (error_after g e)
 abbrev pub no_error : RoundingError
 no_error = record { bound = 0; shift = 0 }
 
+-- the bits that all roundings shift together
+abbrev pub own_shift : Group → ℕ
+own_shift (Fir up filter down) = 0
+own_shift (DownCic factor stages delay) = 0
+own_shift (UpCic factor stages delay) = 0
+own_shift (Rounding shift mode) = shift
+own_shift (Clipping bits) = 0
+
+abbrev pub shifts_of : List Group → ℕ
+shifts_of [] = 0
+shifts_of (g ∷ gs) = own_shift g + shifts_of gs
+
 abbrev pub bound_test : ℕ → RoundingError → Group → Option PlanFault
 bound_test first e g = if nat_le (error_after g e).bound (2 ^ 125) then None else Some (BoundTooWide (middle_of first g))

@@ -1,12 +1,12 @@
 // How great the values of a plan and their rounding errors become.
 ghost use Rattle.std.specs.Prelude.{◌≡◌, ◌≤◌, ◌<◌, ◌+◌, ◌-◌, ◌*◌, ◌/◌, ◌^◌, length, All, None, Some, MatchResult, MatchOption};
 ghost use Rattle.std.specs.Result.{result_err};
-ghost use Rattle.mr_values.specs.Value.{IsWithinLimits, AreTaps};
+ghost use Rattle.mr_values.specs.Value.{IsWithinLimits, AreTaps, has_clip};
 ghost use Rattle.mr_values.specs.Timing.{groups};
 ghost use Rattle.plan_check.specs.Groups.{group_of, IsGroup, IsCic};
-ghost use Rattle.plan_check.specs.Amounts.{rises, falls, magnitude, gain, round_peak, round_error, peak_after, peak_test, error_after, error_after_all, no_error, bound_test};
+ghost use Rattle.plan_check.specs.Amounts.{rises, falls, magnitude, gain, round_peak, round_error, peak_after, peak_test, error_after, error_after_all, no_error, own_shift, shifts_of, bound_test};
 ghost use Rattle.plan_check.specs.Views.{as_error};
-ghost use Rattle.plan_check.specs.Accepted.{peaks_test, bounds_test};
+ghost use Rattle.plan_check.specs.Accepted.{peaks_test, errors_test, bounds_test, bound_of};
 
 use crate::fault::PlanFault;
 use crate::group::{PlanGroup, split_group};
@@ -149,11 +149,76 @@ pub(crate) struct RoundingError {
     pub(crate) shift: u32,
 }
 
-/// Tests that the bound of the rounding error stays small enough, and gives it after all groups.
-pub(crate) fn check_bounds(elements: &[Element]) -> Result<RoundingError, PlanFault>
+/// How far off the roundings are together, where nothing is clipped, and the bits that they shift together.
+#[derive(Clone, Copy)]
+pub(crate) struct PlanError {
+    pub(crate) bound: Option<u128>,
+    pub(crate) shift: u32,
+}
+
+/// Tests that the bound of the rounding error stays small enough, and gives it after all groups. A plan that clips has
+/// none, and passes.
+#[tactic(auto, using(crate::proofs::Shifts::total_shift_is))]
+pub(crate) fn check_bounds(elements: &[Element]) -> Result<PlanError, PlanFault>
     requires limits { All IsWithinLimits elements.now }
     requires few { length elements.now ≤ 32 }
-    ensures { MatchResult result (λ error. (bounds_test (groups elements.now) ≡ None) × (as_error error ≡ error_after_all (groups elements.now) no_error)) (λ fault. bounds_test (groups elements.now) ≡ Some fault) }
+    ensures { MatchResult result
+        (λ error. (bounds_test elements.now ≡ None) × (error.bound ≡ bound_of elements.now) × (error.shift ≡ (error_after_all (groups elements.now) no_error).shift))
+        (λ fault. bounds_test elements.now ≡ Some fault) }
+{
+    if has_clip(elements) {
+        return Ok(PlanError {
+            bound: None,
+            shift: total_shift(elements),
+        });
+    }
+    let error = check_errors(elements)?;
+    Ok(PlanError {
+        bound: Some(error.bound),
+        shift: error.shift,
+    })
+}
+
+// Whether an element clips.
+fn has_clip(elements: &[Element]) -> bool
+    ensures { result ≡ has_clip elements.now }
+{
+    elements
+        .iter()
+        .any(|element| matches!(element, Element::Clip { .. }))
+}
+
+// The bits that all roundings shift together.
+fn total_shift(elements: &[Element]) -> u32
+    requires limits { All IsWithinLimits elements.now }
+    requires few { length elements.now ≤ 32 }
+    ensures { result ≡ shifts_of (groups elements.now) }
+{
+    let mut rest = elements;
+    let mut total = 0;
+    'walk: while let Some((group, others)) = split_group(rest) {
+        total += shift_of(&group);
+        rest = others;
+    }
+    total
+}
+
+fn shift_of(group: &PlanGroup) -> u32
+    requires { IsGroup (group_of group.now) }
+    ensures value { result ≡ own_shift (group_of group.now) }
+    ensures small { result ≤ 64 }
+{
+    match *group {
+        PlanGroup::Round { shift, .. } => shift,
+        _ => 0,
+    }
+}
+
+// Tests the rounding error of each group, and gives it after all of them.
+fn check_errors(elements: &[Element]) -> Result<RoundingError, PlanFault>
+    requires limits { All IsWithinLimits elements.now }
+    requires few { length elements.now ≤ 32 }
+    ensures { MatchResult result (λ error. (errors_test (groups elements.now) ≡ None) × (as_error error ≡ error_after_all (groups elements.now) no_error)) (λ fault. errors_test (groups elements.now) ≡ Some fault) }
 {
     let mut rest = elements;
     let mut first = 1;

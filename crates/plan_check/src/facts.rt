@@ -7,8 +7,10 @@ pub struct Facts {
     pub latency: u64,
     /// Ticks from one output to the next.
     pub period: u64,
-    /// How far `2^shift` times an output is at most from the output of the plan without its roundings.
-    pub bound: u128,
+    /// How far `2^shift` times an output is at most from the output of the plan without its roundings; `None` exactly
+    /// where the plan has a Clip.
+    pub bound: Option<u128>,
+    /// The bits that all roundings shift together.
     pub shift: u32,
     /// The least and the greatest value of an output.
     pub end_lo: i128,

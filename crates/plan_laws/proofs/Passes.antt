@@ -12,7 +12,7 @@ pub record Passes (plan : Plan) : Type 0 where
   pub limits : HasLimits plan
   pub rates : rates_test (size plan.ticks) (groups plan.elements) ≡ None
   pub peaks : peaks_test (size plan.width) (groups plan.elements) ≡ None
-  pub bounds : bounds_test (groups plan.elements) ≡ None
+  pub bounds : bounds_test plan.elements ≡ None
   pub fits : fits_test (size plan.width) (size plan.ticks) (groups plan.elements) ≡ None
   pub costs : costs_test (size plan.width) (size plan.ticks) (groups plan.elements) ≡ None
 

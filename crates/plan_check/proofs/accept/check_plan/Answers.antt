@@ -5,7 +5,6 @@ use Rattle.std.proofs.lemmas.Int.{to_z-of_z}
 use Rattle.mr_values.specs.Value.{size}
 use Rattle.mr_values.specs.Timing.{Stream, groups}
 use Rattle.plan_check.specs.declared.facts.Facts.{Facts}
-use Rattle.plan_check.specs.Amounts.{RoundingError}
 use Rattle.plan_check.specs.Limits.{limits_test}
 use Rattle.plan_check.specs.Accepted.{AreFacts, rates_test, peaks_test, fits_test}
 use Rattle.plan_check.proofs.Acceptance.{accepted_from}
@@ -41,8 +40,8 @@ returns c =
     let here : AreFacts c.whole-width.result c.from-ticks.result elements facts = record {
       latency_is = ap (λ (s : Stream). s.offset + 1) costs.1;
       period_is = ap (λ (s : Stream). s.period) costs.1;
-      bound_is = ap (λ (e : RoundingError). e.bound) bounds.1;
-      shift_is = ap (λ (e : RoundingError). e.shift) bounds.1;
+      bound_is = bounds.1;
+      shift_is = bounds.2;
       low_is = to_z-of_z w128 _ low_fits ∙ ap (λ (s : Stream). s.low) costs.1;
       high_is = to_z-of_z w128 _ high_fits ∙ ap (λ (s : Stream). s.high) costs.1;
       groups_are = costs.2;
