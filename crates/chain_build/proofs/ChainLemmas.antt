@@ -6,11 +6,10 @@ use Rattle.std.proofs.lemmas.Nat.{pow_pos}
 use Rattle.std.proofs.lemmas.Bool.{cases_lt}
 use Rattle.mr_values.specs.declared.plan.Element.{Element}
 use Rattle.mr_values.specs.declared.plan.Element.TheVariants.{Up, Down, Filter, CicDown, CicUp, Round, Clip}
-use Rattle.mr_values.specs.declared.plan.Mode.TheVariants.{HalfUp, HalfEven, Floor}
 use Rattle.mr_values.specs.declared.plan.Form.{Form}
 use Rattle.mr_values.specs.Timing.{Group, Fir, DownCic, UpCic, Rounding, Clipping, join_up, join_filter, groups, input, last_stream, latency}
 use Rattle.mr_values.specs.Sequence.{samples}
-use Rattle.mr_values.specs.Value.{chain, size, has_clip}
+use Rattle.mr_values.specs.Value.{chain, size}
 use Rattle.mr_values.specs.Width.{FitsWidth}
 use Rattle.net_graph.specs.declared.cell.Cell.{Cell}
 use Rattle.net_graph.specs.declared.cell.Node.{Node}
@@ -78,22 +77,8 @@ built-groups (Down factor ∷ es) h = (refl, built-groups es h)
 built-groups (Filter taps form ∷ es) h = let parts = both (is_built_form form) (are_built es) h in built-filter taps form (groups es) parts.0 (built-groups es parts.1)
 built-groups (CicDown factor stages delay ∷ es) h = (tt, built-groups es h)
 built-groups (CicUp factor stages delay ∷ es) h = (tt, built-groups es h)
-built-groups (Round shift HalfUp ∷ es) h = (refl, built-groups es h)
-built-groups (Round shift HalfEven ∷ es) h = absurd (cc)
-built-groups (Round shift Floor ∷ es) h = (refl, built-groups es h)
-built-groups (Clip bits ∷ es) h = absurd (cc)
-
-pub built-unclipped : (es : List Element) → are_built es ≡ true → has_clip es ≡ false
-built-unclipped [] h = refl
-built-unclipped (Up factor ∷ es) h = built-unclipped es h
-built-unclipped (Down factor ∷ es) h = built-unclipped es h
-built-unclipped (Filter taps form ∷ es) h = built-unclipped es (both (is_built_form form) (are_built es) h).1
-built-unclipped (CicDown factor stages delay ∷ es) h = built-unclipped es h
-built-unclipped (CicUp factor stages delay ∷ es) h = built-unclipped es h
-built-unclipped (Round shift HalfUp ∷ es) h = built-unclipped es h
-built-unclipped (Round shift HalfEven ∷ es) h = absurd (cc)
-built-unclipped (Round shift Floor ∷ es) h = built-unclipped es h
-built-unclipped (Clip bits ∷ es) h = absurd (cc)
+built-groups (Round shift mode ∷ es) h = (tt, built-groups es h)
+built-groups (Clip bits ∷ es) h = (tt, built-groups es h)
 
 -- ---- a net of one input
 

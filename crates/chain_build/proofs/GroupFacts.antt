@@ -9,6 +9,7 @@ use Rattle.mr_values.specs.Timing.{Group, Fir, DownCic, UpCic, Rounding, Clippin
 use Rattle.std.specs.Prelude.{unwrap_or}
 use Rattle.plan_check.specs.Forms.{Flow, group_fits}
 use Rattle.plan_check.specs.Groups.{IsGroup}
+use Rattle.rounding_stage.specs.Clipping.{clipping_facts}
 use Rattle.rounding_stage.specs.Rounding.{rounding_facts}
 use Rattle.stage_law.specs.Facts.{StageFacts}
 use Rattle.chain_build.specs.Added.{HasFacts}
@@ -16,6 +17,9 @@ use Rattle.chain_build.proofs.FormFacts.{IsFactsOf, CostsAs, fir-is, fir-kind, f
 
 rounding-is : (shift : ℕ) (mode : Mode) (flow : Flow) → IsFactsOf (Rounding shift mode) flow (rounding_facts shift mode)
 rounding-is shift mode flow = record { does = λ v. refl; up = refl; down = refl; delay = λ s is. refl }
+
+clipping-is : (bits : ℕ) (flow : Flow) → IsFactsOf (Clipping bits) flow (clipping_facts bits)
+clipping-is bits flow = record { does = λ v. refl; up = refl; down = refl; delay = λ s is. refl }
 
 down-is : (factor stages delay : ℕ) (flow : Flow) → IsFactsOf (DownCic factor stages delay) flow (cic_down_facts factor stages delay)
 down-is factor stages delay flow = record { does = λ v. refl; up = refl; down = refl; delay = λ s is. refl }
@@ -33,7 +37,7 @@ facts-is (Fir u f d) flow facts is fits h = subst (IsFactsOf (Fir u f d) flow) (
 facts-is (DownCic factor stages delay) flow facts is fits h = subst (IsFactsOf (DownCic factor stages delay) flow) (sym h) (down-is factor stages delay flow)
 facts-is (UpCic factor stages delay) flow facts is fits h = subst (IsFactsOf (UpCic factor stages delay) flow) (sym h) (up-is factor stages delay flow)
 facts-is (Rounding shift mode) flow facts is fits h = subst (IsFactsOf (Rounding shift mode) flow) (sym h) (rounding-is shift mode flow)
-facts-is (Clipping bits) flow facts is fits h = absurd is
+facts-is (Clipping bits) flow facts is fits h = subst (IsFactsOf (Clipping bits) flow) (sym h) (clipping-is bits flow)
 
 -- a group that doesn't round carries its elements in the uncut run too
 pub plain-carries : (g : Group) (flow : Flow) (facts : StageFacts) → IsPlainGroup g → HasFacts g flow facts → carries_uncut facts.kind ≡ true
@@ -64,4 +68,4 @@ costs-as (Fir u f d) flow facts is h = subst (CostsAs (Fir u f d)) (sym h) (fir-
 costs-as (DownCic factor stages delay) flow facts is h = subst (CostsAs (DownCic factor stages delay)) (sym h) (record { adders = refl; windows = refl; tables = refl })
 costs-as (UpCic factor stages delay) flow facts is h = subst (CostsAs (UpCic factor stages delay)) (sym h) (record { adders = refl; windows = refl; tables = refl })
 costs-as (Rounding shift mode) flow facts is h = subst (CostsAs (Rounding shift mode)) (sym h) (rounding-costs shift mode)
-costs-as (Clipping bits) flow facts is h = absurd h
+costs-as (Clipping bits) flow facts is h = subst (CostsAs (Clipping bits)) (sym h) (record { adders = refl; windows = refl; tables = refl })

@@ -21,6 +21,7 @@ use Rattle.pipeline_balance.specs.Gate.{Carries}
 use Rattle.plan_check.specs.Forms.{Flow, group_fits}
 use Rattle.plan_check.specs.Groups.{IsGroup}
 use Rattle.cic_chain.specs.Facts.{cic_down_facts, cic_up_facts}
+use Rattle.rounding_stage.specs.Clipping.{clipping_facts}
 use Rattle.rounding_stage.specs.Rounding.{rounding_facts}
 use Rattle.span_ranges.specs.Span.{IsInSpan}
 use Rattle.stage_law.specs.Facts.{StageFacts}
@@ -36,7 +37,7 @@ HasFacts (Fir up filter down) flow facts = facts ≡ fir_facts (form_of filter) 
 HasFacts (DownCic factor stages delay) flow facts = facts ≡ cic_down_facts factor stages delay
 HasFacts (UpCic factor stages delay) flow facts = facts ≡ cic_up_facts factor stages delay
 HasFacts (Rounding shift mode) flow facts = facts ≡ rounding_facts shift mode
-HasFacts (Clipping bits) flow facts = ⊥
+HasFacts (Clipping bits) flow facts = facts ≡ clipping_facts bits
 
 abbrev pub IsCascade : Group → Type 0
 IsCascade (DownCic factor stages delay) = Unit {0}

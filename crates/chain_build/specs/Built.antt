@@ -4,7 +4,6 @@ use Rattle.std.specs.List.{list_all}
 use Rattle.mr_values.specs.declared.plan.Element.{Element}
 use Rattle.mr_values.specs.declared.plan.Element.TheVariants.{Up, Down, Filter, CicDown, CicUp, Round, Clip}
 use Rattle.mr_values.specs.Timing.{Group, Fir, DownCic, UpCic, Rounding, Clipping, form_of}
-use Rattle.rounding_stage.specs.Rounding.{is_built_mode}
 use Rattle.stage_law.specs.declared.stage.Kind.{Kind}
 use Rattle.stage_law.specs.declared.stage.Kind.TheVariants as kind
 use Rattle.chain_build.specs.Forms.{is_built_form, form_kind}
@@ -16,8 +15,8 @@ is_built (Down factor) = true
 is_built (Filter taps form) = is_built_form form
 is_built (CicDown factor stages delay) = true
 is_built (CicUp factor stages delay) = true
-is_built (Round shift mode) = is_built_mode mode
-is_built (Clip bits) = false
+is_built (Round shift mode) = true
+is_built (Clip bits) = true
 
 -- all elements are built
 abbrev pub are_built : List Element → Bool
@@ -28,8 +27,8 @@ abbrev pub IsBuiltGroup : Group → Type 0
 IsBuiltGroup (Fir up filter down) = is_built_form (form_of filter) ≡ true
 IsBuiltGroup (DownCic factor stages delay) = Unit {0}
 IsBuiltGroup (UpCic factor stages delay) = Unit {0}
-IsBuiltGroup (Rounding shift mode) = is_built_mode mode ≡ true
-IsBuiltGroup (Clipping bits) = ⊥
+IsBuiltGroup (Rounding shift mode) = Unit {0}
+IsBuiltGroup (Clipping bits) = Unit {0}
 
 abbrev pub AreBuiltGroups : List Group → Type 0
 AreBuiltGroups [] = Unit {0}

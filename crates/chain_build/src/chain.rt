@@ -7,7 +7,6 @@ ghost use Rattle.plan_check.specs.Accepted.{IsAccepted, AreFacts};
 ghost use Rattle.stage_law.specs.Streams.{HasRoom};
 ghost use Rattle.width_extreme.specs.Prefix.{IsStream};
 ghost use Rattle.chain_build.specs.Alike.{HasCascades};
-ghost use Rattle.rounding_stage.specs.Rounding.{is_built_mode};
 ghost use Rattle.chain_build.specs.Built.{are_built, is_built, has_rounding};
 ghost use Rattle.chain_build.specs.ChainNet.{IsChainNet};
 ghost use Rattle.chain_build.specs.GroupCosts.{HasCosts};
@@ -24,7 +23,7 @@ use crate::forms::is_built_form;
 use crate::groups::{Chained, GroupCost, add_groups};
 use crate::output::{Outputs, add_outputs};
 use crate::prefix::{prefix_ranges, width_of};
-use mr_values::{Element, Memory, Mode, Plan};
+use mr_values::{Element, Memory, Plan};
 use net_graph::{Net, Netlist, Node, Stream};
 use net_outputs::range_width;
 use plan_check::Facts;
@@ -47,16 +46,6 @@ pub struct Built {
     pub extremes: Vec<RegisterExtreme>,
 }
 
-// Whether a rounding of this mode is built.
-fn is_built_mode(mode: Mode) -> bool
-    ensures { result ≡ is_built_mode mode }
-{
-    match mode {
-        Mode::HalfUp | Mode::Floor => true,
-        Mode::HalfEven => false,
-    }
-}
-
 // Whether the element is built.
 fn can_add(element: &Element) -> bool
     ensures { result ≡ is_built element.now }
@@ -66,9 +55,9 @@ fn can_add(element: &Element) -> bool
         Element::Up { .. }
         | Element::Down { .. }
         | Element::CicDown { .. }
-        | Element::CicUp { .. } => true,
-        Element::Round { mode, .. } => is_built_mode(*mode),
-        Element::Clip { .. } => false,
+        | Element::CicUp { .. }
+        | Element::Round { .. }
+        | Element::Clip { .. } => true,
     }
 }
 

@@ -30,7 +30,7 @@ use crate::stages::emit_stage;
 use mr_values::{Form, Memory, Plan, least_width};
 use net_graph::{Net, Stream};
 use plan_check::{Facts, FirFilter, GroupFacts, PlanGroup, split_group};
-use rounding_stage::Rounding;
+use rounding_stage::{Clipping, Rounding};
 use span_ranges::SpanRanges;
 use stage_law::{Cost, Emitted, Kind, Ranges, Rates};
 use std::alloc::Global;
@@ -100,7 +100,11 @@ fn add_group<R: Ranges>(
             let added = emit_stage(alloc, net, from, &stage, ranges)?;
             Ok(added)
         }
-        PlanGroup::Clip { .. } => unreachable!(),
+        PlanGroup::Clip { bits } => {
+            let stage = Clipping::new(*bits as u8);
+            let added = emit_stage(alloc, net, from, &stage, ranges)?;
+            Ok(added)
+        }
         PlanGroup::Fir { filter, .. } => {
             let part = RatedFilter {
                 filter: filter_or_one(filter),

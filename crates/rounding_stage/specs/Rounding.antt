@@ -1,16 +1,10 @@
 -- What a rounding is as a stage.
-use Rattle.std.specs.Prelude.{Bool, true, false, ℕ, ◌≤◌, [], ◌∷◌, pos}
+use Rattle.std.specs.Prelude.{ℕ, ◌≤◌, [], ◌∷◌, pos}
 use Rattle.mr_values.specs.declared.plan.Element.TheVariants.{Round}
 use Rattle.mr_values.specs.declared.plan.Mode.{Mode}
 use Rattle.mr_values.specs.declared.plan.Mode.TheVariants.{HalfUp, HalfEven, Floor}
 use Rattle.stage_law.specs.Facts.{StageFacts}
 use Rattle.stage_law.specs.declared.stage.Kind.TheVariants.{Rounding}
-
--- the modes that a chain takes so far
-abbrev pub is_built_mode : Mode → Bool
-is_built_mode HalfUp = true
-is_built_mode HalfEven = false
-is_built_mode Floor = true
 
 -- the half is added, and a floor adds nothing
 abbrev pub rounding_adders : Mode → ℕ
