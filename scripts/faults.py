@@ -59,7 +59,7 @@ FAULTS = (
     (20, "A number of the plan lies outside its limits.", "The limits stand in PLANS.md, key by key. `which` names the number, and `value` is what was found.", COMPILE, plan('[[element]]\nkind = "down"\nfactor = 0\n'), "plan.toml"),
     (21, "The ticks of a sample can't be divided by an Up's factor: the element would need a fraction of a tick.", "Give `ticks` a factor that the Up can use: a sample of 2 ticks can become two of 1.", COMPILE, plan('[[element]]\nkind = "up"\nfactor = 2\n' + FILTER), "plan.toml"),
     (22, "The greatest magnitude that a value can have at this element is above 2^125, so that it would need more than 127 bits.", "Round before it, or take smaller taps.", COMPILE, plan(('[[element]]\nkind = "cic_down"\nfactor = 4096\nstages = 8\ndelay = 2\n') * 2, "version = 1\nwidth = 64\n"), "plan.toml"),
-    (23, "The bound of the rounding error, scaled by all shifts up to this element, is above 2^125.", "Round by fewer bits in all, or less often.", COMPILE, plan('[[element]]\nkind = "round"\nshift = 64\n' * 3), "plan.toml"),
+    (23, "The bound of the rounding error, scaled by all shifts up to this element, is above 2^125. A plan with a clip has no bound.", "Round by fewer bits in all, or less often.", COMPILE, plan('[[element]]\nkind = "round"\nshift = 64\n' * 3), "plan.toml"),
     (24, "The filter's taps or its place in the chain don't fit its form. PLANS.md says what each form asks.", "Take another form, or more ticks.", COMPILE, plan(FILTER.replace("[1, 1]", "[1, 2]") + 'form = "symmetric"\n'), "plan.toml"),
     (25, "The plan costs more than is accepted: `which` is `Terms`, `Latency`, `Work`, `Response` or `Cycle` (PLANS.md has the limits), and `value` is how much.", "Fewer or shorter filters, smaller factors in one group, or a rounding between CIC stages and long filters.", COMPILE, plan("".join(f'[[element]]\nkind = "filter"\ntaps = [{", ".join(["1537228672809129301"] * 1024)}]\n' for _ in range(1)), "version = 1\nwidth = 4\n"), None),
     (26, "A period of the chain has 2^31 ticks or more.", "Smaller Downs, or fewer ticks for a sample.", COMPILE, plan('[[element]]\nkind = "down"\nfactor = 4096\n' * 2, "version = 1\nwidth = 4\nticks = 65536\n"), "plan.toml"),
@@ -82,7 +82,7 @@ FAULTS = (
     (57, "An output, wire or reg has no driver.", "Drive it, or leave it out.", SIM, text("wire w;"), "text.v"),
     (58, "A wire depends on itself through assignments.", "Put a register into the loop.", SIM, text("wire v; wire w; assign v = w; assign w = v;"), "text.v"),
     (60, "The plan has no linear register of this name for which one bit is too few.", "The report names the registers; those with a tick and a value are the ones.", "extreme plan.toml s9_w0 out", plan(FILTER), None),
-    (70, "The program doesn't build this plan yet: a filter of the form `half_band`, `folded` or `distributed`, a clip, or the mode `half_even`.", "Take another form; `noble` takes every accepted plan.", COMPILE, plan(FILTER.replace("[1, 1]", "[1, 2, 1]") + 'form = "folded"\nslots = 2\n', "version = 1\nwidth = 4\nticks = 2\n"), "plan.toml"),
+    (70, "The program doesn't build this plan yet: a filter of the form `half_band`, `folded` or `distributed`.", "Take another form; `noble` and `migrate` take every accepted plan.", COMPILE, plan(FILTER.replace("[1, 1]", "[1, 2, 1]") + 'form = "folded"\nslots = 2\n', "version = 1\nwidth = 4\nticks = 2\n"), "plan.toml"),
 )
 
 

@@ -2,7 +2,7 @@
 use Rattle.std.proofs.Common.{◌≡◌, ◌≢◌, ◌∙◌, ℕ, Bool, cond, true, false, not, ◌&&◌, List, [], ◌∷◌, codes, Option, Some, None, option_map, sym, ap, subst, refl}
 use Rattle.std.specs.Str.{bytes_eq}
 use Rattle.std.specs.Cmp.Lexicographic.{nat_list_eq_equiv}
-use Rattle.filter_core.specs.CommandWords.{CommandWords, compile_words, run_words, sim_words, order_words, extreme_words, noble_words, demo_words, is_file, are_two_files, are_three_files, number_of, command_of_two, command_of_three, command_of_four, command_of, AreApart}
+use Rattle.filter_core.specs.CommandWords.{CommandWords, compile_words, run_words, sim_words, order_words, extreme_words, noble_words, migrate_words, demo_words, is_file, are_two_files, are_three_files, number_of, command_of_two, command_of_three, command_of_four, command_of, AreApart}
 
 abbrev AreApartIn : Option CommandWords → Type 0
 AreApartIn None = Unit {0}
@@ -37,7 +37,9 @@ three_apart a b c are = two_apart b c (last_of (are_two_files a b && are_two_fil
 apart_two : (word a b : List ℕ) → AreApartIn (command_of_two word a b)
 apart_two word a b = apart_by (bytes_eq word (codes "noble")) _ _
     (λ is. apart_by (are_two_files a b) (Some (noble_words a b)) None (λ h. tt) (λ h. tt))
-    (λ isnt. apart_by (bytes_eq word (codes "demo") && is_file b) _ None (λ h. demo (number_of a)) (λ h. tt))
+    (λ isnt. apart_by (bytes_eq word (codes "migrate")) _ _
+    (λ is. apart_by (are_two_files a b) (Some (migrate_words a b)) None (λ h. tt) (λ h. tt))
+    (λ isnt. apart_by (bytes_eq word (codes "demo") && is_file b) _ None (λ h. demo (number_of a)) (λ h. tt)))
   where
     demo : (number : Option ℕ) → AreApartIn (option_map (λ n. demo_words n b) number)
     demo None = tt

@@ -6,11 +6,12 @@ use Rattle.command_files.specs.declared.fault.CommandFault.{CommandFault}
 use Rattle.filter_core.specs.declared.fault.Fault.{Fault}
 use Rattle.filter_core.specs.declared.fault.Fault.TheVariants.{Usage}
 use Rattle.filter_core.specs.Answers.{Answers}
-use Rattle.filter_core.specs.CommandWords.{CommandWords, compile_words, run_words, sim_words, order_words, extreme_words, noble_words, demo_words}
+use Rattle.filter_core.specs.CommandWords.{CommandWords, compile_words, run_words, sim_words, order_words, extreme_words, noble_words, migrate_words, demo_words}
 use Rattle.mr_values.specs.declared.plan.Plan.{Plan}
 use Rattle.command_files.specs.Ends.{IsNoFile}
 use Rattle.command_files.specs.PlanFile.{IsAcceptedFile, IsOfPlan}
 use Rattle.demo_command.specs.Demo.{DemoEnds}
+use Rattle.plan_commands.specs.Migrate.{MigrateEnds}
 use Rattle.plan_commands.specs.Noble.{NobleEnds}
 use Rattle.plan_commands.specs.Compile.{CompileEnds, IsBuiltFile}
 use Rattle.plan_commands.specs.Extreme.{ExtremeEnds, IsExtremeReady}
@@ -26,6 +27,7 @@ IsReadFor (sim_words text stimulus out) = IsTextOrStimulus text stimulus
 IsReadFor (order_words text stimulus out number) = IsTextOrStimulus text stimulus
 IsReadFor (extreme_words plan register out) = IsOfPlan plan
 IsReadFor (noble_words plan out) = IsOfPlan plan
+IsReadFor (migrate_words plan out) = IsOfPlan plan
 IsReadFor (demo_words number out) = IsNoFile
 
 -- each command's answers, and the host after them
@@ -36,6 +38,7 @@ CommandEnds (sim_words text stimulus out) result old new = SimEnds text stimulus
 CommandEnds (order_words text stimulus out number) result old new = OrderEnds text stimulus out number result old new
 CommandEnds (extreme_words plan register out) result old new = ExtremeEnds plan register out result old new
 CommandEnds (noble_words plan out) result old new = NobleEnds plan out result old new
+CommandEnds (migrate_words plan out) result old new = MigrateEnds plan out result old new
 CommandEnds (demo_words number out) result old new = DemoEnds number out result old new
 
 -- the files that a command reads are there and accepted
@@ -46,6 +49,7 @@ IsReady (sim_words text stimulus out) files = AreSimFiles text stimulus files
 IsReady (order_words text stimulus out number) files = AreSimFiles text stimulus files
 IsReady (extreme_words plan register out) files = IsExtremeReady plan register files
 IsReady (noble_words plan out) files = (meaning : Plan) × IsAcceptedFile plan files meaning
+IsReady (migrate_words plan out) files = (meaning : Plan) × IsAcceptedFile plan files meaning
 IsReady (demo_words number out) files = Unit {0}
 
 -- the same of words that may be no command

@@ -15,7 +15,7 @@ use crate::words::{Command, read_words};
 use command_files::CommandFault;
 use demo_command::demo;
 use mr_values::Host;
-use plan_commands::{compile, extreme, noble, run_plan};
+use plan_commands::{compile, extreme, migrate, noble, run_plan};
 use std::alloc::Global;
 use text_commands::{order, sim};
 
@@ -109,6 +109,7 @@ fn run<H: Host>(alloc: Global, command: Command<'_>, host: &mut H) -> Result<(),
             out,
         } => extreme(alloc, plan, register, out, host),
         Command::Noble { plan, out } => noble(alloc, plan, out, host),
+        Command::Migrate { plan, out } => migrate(alloc, plan, out, host),
         Command::Demo { number, out } => demo(alloc, number, out, host),
     }
 }

@@ -12,10 +12,15 @@ use Rattle.verilog_tree.specs.Names.{shapes_of, text_of}
 use Rattle.verilog_tree.specs.Shown.{ports_of}
 use Rattle.verilog_tree.specs.Tree.{Design}
 
+-- the bound of the rounding error; a plan that clips has none
+abbrev pub bound_words : Option ℕ → List ℕ
+bound_words None = codes "none"
+bound_words (Some bound) = decimal bound
+
 -- the tick of the first output, the ticks from one to the next, the bound and the shift, and the bits of an output
 abbrev pub plan_lines : Facts → ℕ → List ℕ
 plan_lines facts output =
-    codes "latency " ++ decimal facts.latency ++ codes "\nperiod " ++ decimal facts.period ++ codes "\nbound " ++ decimal facts.bound ++ codes "\nshift " ++ decimal facts.shift
+    codes "latency " ++ decimal facts.latency ++ codes "\nperiod " ++ decimal facts.period ++ codes "\nbound " ++ bound_words facts.bound ++ codes "\nshift " ++ decimal facts.shift
     ++ codes "\noutput " ++ decimal output ++ codes "\n"
 
 abbrev pub kind_word : Kind → List ℕ

@@ -5,7 +5,7 @@ ghost use Rattle.mr_values.specs.Timing.{Group};
 ghost use Rattle.verilog_tree.specs.View.{design_view};
 ghost use Rattle.filter_text.specs.Written.{TellCosts};
 ghost use Rattle.filter_text.specs.Extremes.{told_at};
-ghost use Rattle.filter_report.specs.Report.{plan_lines, report_text, TellsOutput};
+ghost use Rattle.filter_report.specs.Report.{bound_words, plan_lines, report_text, TellsOutput};
 
 use crate::groups::put_groups;
 use crate::registers::put_registers;
@@ -34,6 +34,19 @@ pub(crate) fn put_value(text: &mut Vec<u8>, word: &str, value: i128) -> Result<(
     Ok(())
 }
 
+// Appends the line of the bound, but for its end.
+fn put_bound(text: &mut Vec<u8>, bound: Option<u128>) -> Result<(), AllocError>
+    ensures { OnOk result (text.new.items ≡ text.old.items ++ codes "\nbound " ++ bound_words bound) }
+{
+    match bound {
+        Some(bound) => put_number(text, "\nbound ", bound),
+        None => {
+            text.extend_from_slice(b"\nbound none")?;
+            Ok(())
+        }
+    }
+}
+
 // The lines of the plan's numbers.
 fn plan_lines(alloc: Global, facts: &Facts, output: u8) -> Result<Vec<u8>, AllocError>
     ensures { IfOk result (λ text. text.items ≡ plan_lines facts.now output) }
@@ -41,14 +54,14 @@ fn plan_lines(alloc: Global, facts: &Facts, output: u8) -> Result<Vec<u8>, Alloc
     let mut text = Vec::new(alloc);
     put_number(&mut text, "latency ", u128::from(facts.latency))?;
     put_number(&mut text, "\nperiod ", u128::from(facts.period))?;
-    put_number(&mut text, "\nbound ", facts.bound)?;
+    put_bound(&mut text, facts.bound)?;
     put_number(&mut text, "\nshift ", u128::from(facts.shift))?;
     put_number(&mut text, "\noutput ", u128::from(output))?;
     text.extend_from_slice(b"\n")?;
     Ok(text)
 }
 
-/// The report: latency and period in ticks, the bound, the shift, and the bits of the output; the form and the cost of each group; and
+/// The report: latency and period in ticks, the bound or that there is none, the shift, and the bits of the output; the form and the cost of each group; and
 /// the bits of each register, in the order of the text, with the tick and the value that are told at the number of its name.
 /// Fails only for want of memory.
 pub fn report_text(alloc: Global, facts: &Facts, chain: &ChainModule) -> Result<Vec<u8>, AllocError>

@@ -1,5 +1,5 @@
 -- The writes of `compile`.
-use Rattle.std.proofs.Common.{◌≡◌, ℕ, ◌+◌, ℤ, List, [], ◌∷◌, ◌++◌, map, Option, true, Result, Ok, Err, inl, inr, refl, sym, ap, ◌∙◌, subst}
+use Rattle.std.proofs.Common.{◌≡◌, ℕ, ◌+◌, ◌^◌, ◌≤◌, ℤ, pos, ◌*ℤ◌, ◌-ℤ◌, List, [], ◌∷◌, ◌++◌, map, Option, None, Some, Bool, true, false, if◌then◌else◌, Result, Ok, Err, inl, inr, refl, sym, ap, ◌∙◌, subst}
 use Rattle.std.specs.FinMap.{insert}
 use Rattle.filter_text.specs.Written.{TellCosts, IsChainModule, IsTextWritten}
 use Rattle.filter_text.specs.declared.chain.ChainModule.{ChainModule}
@@ -27,23 +27,33 @@ use Rattle.command_files.specs.Reading.{IsReadPlan}
 use Rattle.command_files.proofs.EndedPlan.{ended_of}
 use Rattle.mr_values.specs.declared.plan.Plan.{Plan}
 use Rattle.command_files.specs.WholeFiles.{WriteAnswer, IsEmptied, HoldsFront, HoldsPart}
-use Rattle.std.specs.Prelude.{All}
+use Rattle.std.specs.Prelude.{All, unsigned_abs}
 use Rattle.mr_values.specs.declared.plan.Element.{Element}
-use Rattle.mr_values.specs.Value.{size, IsWithinLimits}
+use Rattle.mr_values.specs.Value.{size, val, has_clip, IsWithinLimits}
 use Rattle.plan_check.specs.declared.facts.Facts.{Facts}
 use Rattle.plan_check.specs.Accepted.{AreFacts}
+use Rattle.plan_check.specs.Amounts.{RoundingError, error_after_all, no_error}
+use Rattle.plan_laws.specs.Laws.{plain}
 use Rattle.plan_laws.proofs.Errors.{bound_holds}
 use Rattle.plan_laws.proofs.Passes.{passes_of}
 use Rattle.chain_build.specs.Built.{are_built}
-use Rattle.chain_build.proofs.ChainLemmas.{built-unclipped}
 use Rattle.command_files.specs.declared.accept.AcceptedPlan.{AcceptedPlan}
 use Rattle.command_files.specs.PlanFile.{IsAcceptedFile, AreReadToEnd}
 use Rattle.command_files.specs.Reading.{IsAcceptedPlan}
 use Rattle.plan_commands.specs.Compile.{IsBounded, AreOutputs, CompileEnds}
 
 -- the reported bound holds
-bounded_by : (w t : ℕ) (elements : List Element) (facts : Facts) → are_built elements ≡ true → All IsWithinLimits elements → AreFacts w t elements facts → IsBounded elements facts
-bounded_by w t elements facts built limits are xs n = rw (are.bound_is, are.shift_is) (bound_holds elements limits (built-unclipped elements built) xs n)
+bounded_by : (w t : ℕ) (elements : List Element) (facts : Facts) → All IsWithinLimits elements → AreFacts w t elements facts → IsBounded elements facts
+bounded_by w t elements facts limits are bound some xs n = by (has_clip elements) refl (sym some ∙ are.bound_is)
+  where
+    error : RoundingError
+    error = error_after_all (groups elements) no_error
+
+    by : (clips : Bool) → has_clip elements ≡ clips → Some bound ≡ (if clips then None else Some error.bound) → unsigned_abs (pos (2 ^ facts.shift) *ℤ val elements xs n -ℤ val (plain elements) xs n) ≤ bound
+    by true is none = absurd (cc)
+    by false is at =
+        let same : error.bound ≡ bound = cc in
+        rw are.shift_is (subst (λ (most : ℕ). unsigned_abs (pos (2 ^ error.shift) *ℤ val elements xs n -ℤ val (plain elements) xs n) ≤ most) same (bound_holds elements limits is xs n))
 
 -- ---- the report is that of the module that is read
 
@@ -83,7 +93,7 @@ outputs_of plan files text lines accepted file_is is_plan built chain is_chain w
   tells = is_chain.extremes written.design written.same;
   lines = reported.told (groups accepted.plan.elements) is_chain.costs (is_chain.output written.design written.same ∙ same_output written.design (design_view chain.design) written.same)
       ∙ sym (same_report accepted.facts (groups accepted.plan.elements) written.design (design_view chain.design) written.same (told_at chain.extremes.items));
-  bounded = bounded_by (size accepted.plan.width) (size accepted.plan.ticks) accepted.plan.elements accepted.facts built ((passes_of accepted.plan is_plan.passes).limits.elements) is_plan.are_facts;
+  bounded = bounded_by (size accepted.plan.width) (size accepted.plan.ticks) accepted.plan.elements accepted.facts ((passes_of accepted.plan is_plan.passes).limits.elements) is_plan.are_facts;
 }
 
 -- the write of TEXT failed

@@ -1,5 +1,5 @@
 -- What `compile` writes, and what its answers mean.
-use Rattle.std.specs.Prelude.{◌≡◌, ◌⊎◌, ℕ, Option, ◌≤◌, ◌^◌, ℤ, pos, ◌*ℤ◌, ◌-ℤ◌, unsigned_abs, List, [], true, false, Result, Ok, Err}
+use Rattle.std.specs.Prelude.{◌≡◌, ◌⊎◌, ℕ, Option, Some, ◌≤◌, ◌^◌, ℤ, pos, ◌*ℤ◌, ◌-ℤ◌, unsigned_abs, List, [], true, false, Result, Ok, Err}
 use Rattle.std.specs.FinMap.{insert}
 use Rattle.mr_values.specs.Files.{Files}
 use Rattle.mr_values.specs.Host.{HostState}
@@ -33,9 +33,10 @@ pub record IsUnbuiltFile (name : List ℕ) (files : Files) : Type 0 where
   pub accepted : IsAcceptedFile name files plan
   pub other : are_built plan.elements ≡ false
 
--- 2 ^ shift times a value of the chain is at most the bound away from the value of the chain without its roundings
+-- where there is a bound, 2 ^ shift times a value of the chain is at most that far from the value of the chain without its roundings
 abbrev pub IsBounded : List Element → Facts → Type 0
-IsBounded elements facts = (xs : List ℤ) (n : ℤ) → unsigned_abs (pos (2 ^ facts.shift) *ℤ val elements xs n -ℤ val (plain elements) xs n) ≤ facts.bound
+IsBounded elements facts =
+    (bound : ℕ) → facts.bound ≡ Some bound → (xs : List ℤ) (n : ℤ) → unsigned_abs (pos (2 ^ facts.shift) *ℤ val elements xs n -ℤ val (plain elements) xs n) ≤ bound
 
 -- What TEXT and REPORT are to hold: a text that reads as a module which shows the plan's chain, at its latency and period, and the
 -- lines of the report, which tell these and the bound, the cost of each group in that module, and its registers: 2 ^ shift times a value

@@ -1,4 +1,5 @@
 pub mod Compile
 pub mod Extreme
+pub mod Migrate
 pub mod Noble
 pub mod Run

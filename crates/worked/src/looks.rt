@@ -45,7 +45,7 @@ pub fn has_lines(file: &[u8], wanted: &str) -> bool {
     }
 }
 
-/// Whether the file is an accepted plan of this latency, period, bound and shift, with a blank between them.
+/// Whether the file is an accepted plan of this latency, period, bound (or `none`) and shift, with a blank between them.
 pub fn is_accepted(alloc: Global, file: &[u8], wanted: &str) -> Result<bool, Memory> {
     let Ok(read) = read_plan(alloc, file) else {
         return Ok(false);
@@ -53,9 +53,13 @@ pub fn is_accepted(alloc: Global, file: &[u8], wanted: &str) -> Result<bool, Mem
     let Ok(facts) = check_plan(alloc, &read.plan) else {
         return Ok(false);
     };
+    let bound = match facts.bound {
+        Some(bound) => format!(in alloc; "{bound}")?,
+        None => format!(in alloc; "none")?,
+    };
     let numbers = format!(in alloc;
-        "{} {} {} {}",
-        facts.latency, facts.period, facts.bound, facts.shift
+        "{} {} {bound} {}",
+        facts.latency, facts.period, facts.shift
     )?;
     Ok(numbers.as_str() == wanted)
 }

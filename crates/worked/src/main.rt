@@ -17,6 +17,7 @@ const SUBJECTS: [&str; 12] = [
     "values.txt",
     "reports.txt",
     "noble.txt",
+    "version_two.txt",
     "extremes.txt",
     "texts.txt",
     "cycles.txt",

@@ -4,6 +4,7 @@ use Rattle.filter_core.specs.Tool.{IsReady}
 use Rattle.demo_command.proofs.Completeness.{demo-complete}
 use Rattle.plan_commands.proofs.Completeness.{compile-complete, noble-complete}
 use Rattle.plan_commands.proofs.ExtremeSteps.{extreme-complete}
+use Rattle.plan_commands.proofs.MigrateSteps.{migrate-complete}
 use Rattle.plan_commands.proofs.RunSteps.{run-complete}
 use Rattle.text_commands.proofs.SimSteps.{sim-complete}
 use Rattle.text_commands.proofs.OrderSteps.{order-complete}
@@ -22,6 +23,13 @@ returns-in-Noble-clause-complete g c = λ told ready unstruck.
     let new = g.H.Host.state c.noble.new.host in
     let accepted = subst (λ command. IsReady (words_of command) old.files) c.in-Noble.is ready in
     noble-complete c.in-Noble.plan.now c.in-Noble.out.now c.noble.result old new (c.noble.ensures.cause.struck told) (c.noble.ensures.told told) accepted.0 accepted.1 unstruck
+
+pub returns-in-Migrate-clause-complete : goal.returns-in-Migrate-clause-complete
+returns-in-Migrate-clause-complete g c = λ told ready unstruck.
+    let old = g.H.Host.state c.args.host.now in
+    let new = g.H.Host.state c.migrate.new.host in
+    let accepted = subst (λ command. IsReady (words_of command) old.files) c.in-Migrate.is ready in
+    migrate-complete c.in-Migrate.plan.now c.in-Migrate.out.now c.migrate.result old new (c.migrate.ensures.cause.struck told) (c.migrate.ensures.told told) accepted.0 accepted.1 unstruck
 
 pub returns-in-Run-clause-complete : goal.returns-in-Run-clause-complete
 returns-in-Run-clause-complete g c = λ told ready unstruck.
