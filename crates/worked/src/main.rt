@@ -10,7 +10,7 @@ use bench::Bench;
 use std::io::ErrorKind;
 use std::{fs, io};
 
-const SUBJECTS: [&str; 12] = [
+const SUBJECTS: [&str; 13] = [
     "words.txt",
     "plan_files.txt",
     "limits.txt",
