@@ -16,7 +16,7 @@ is_built_form Parallel = true
 is_built_form Symmetric = true
 is_built_form HalfBand = false
 is_built_form (Folded slots) = false
-is_built_form (Distributed group) = false
+is_built_form (Distributed group) = true
 
 abbrev pub form_kind : Form → Kind
 form_kind Parallel = kind.Parallel

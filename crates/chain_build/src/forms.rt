@@ -10,6 +10,7 @@ ghost use Rattle.chain_build.specs.Forms.{is_built_form, fir_facts, AsksForm};
 use crate::groups::Added;
 use crate::mirrored::add_mirrored;
 use crate::parallel::add_parallel;
+use crate::serial::add_serial;
 use mr_values::{Form, Memory};
 use net_graph::{Net, Stream};
 use plan_check::FirFilter;
@@ -21,8 +22,8 @@ pub(crate) fn is_built_form(form: Form) -> bool
     ensures { result ≡ is_built_form form }
 {
     match form {
-        Form::Parallel | Form::Symmetric => true,
-        Form::HalfBand | Form::Folded { .. } | Form::Distributed { .. } => false,
+        Form::Parallel | Form::Symmetric | Form::Distributed { .. } => true,
+        Form::HalfBand | Form::Folded { .. } => false,
     }
 }
 
@@ -64,6 +65,7 @@ pub(crate) fn add_filter<R: Ranges>(
     match part.filter.form {
         Form::Parallel => add_parallel(alloc, net, from, taps, part.rates, ranges),
         Form::Symmetric => add_mirrored(alloc, net, from, taps, part.rates.down, ranges),
-        Form::HalfBand | Form::Folded { .. } | Form::Distributed { .. } => unreachable!(),
+        Form::Distributed { group } => add_serial(alloc, net, from, part, group, ranges),
+        Form::HalfBand | Form::Folded { .. } => unreachable!(),
     }
 }

@@ -10,6 +10,7 @@ mod mirrored;
 mod output;
 mod parallel;
 mod prefix;
+mod serial;
 mod stages;
 
 pub use chain::{Built, build, can_build};

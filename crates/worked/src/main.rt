@@ -10,7 +10,7 @@ use bench::Bench;
 use std::io::ErrorKind;
 use std::{fs, io};
 
-const SUBJECTS: [&str; 13] = [
+const SUBJECTS: [&str; 14] = [
     "words.txt",
     "plan_files.txt",
     "limits.txt",
@@ -18,6 +18,7 @@ const SUBJECTS: [&str; 13] = [
     "reports.txt",
     "noble.txt",
     "version_two.txt",
+    "distributed.txt",
     "extremes.txt",
     "texts.txt",
     "cycles.txt",
