@@ -80,7 +80,12 @@ impl<'a> Struck<'a> {
     }
 
     // What is not as it should be where the call of that number fails.
-    fn failing(&self, alloc: Global, number: usize, whole: &Recorder) -> Result<Option<String>, Memory> {
+    fn failing(
+        &self,
+        alloc: Global,
+        number: usize,
+        whole: &Recorder,
+    ) -> Result<Option<String>, Memory> {
         let mut host = self.host(alloc)?;
         host.fail_call(number as u64)?;
         let outcome = filter_tool(alloc, self.words, &mut host);
@@ -91,11 +96,17 @@ impl<'a> Struck<'a> {
         let call = whole.calls[number];
         let wanted = format!(in alloc; "3 HostFault call={call}")?;
         if end.as_str() != wanted.as_str() {
-            return Ok(Some(format!(in alloc; "ends {end} where call {number} fails, in place of {wanted}")?));
+            return Ok(Some(format!(in alloc;
+                "ends {end} where call {number} fails, in place of {wanted}"
+            )?));
         }
         for name in self.names.iter().chain(self.words) {
             let name = name.as_str();
-            if !stands(self.files.file(name), whole.host.file(name), host.file(name)) {
+            if !stands(
+                self.files.file(name),
+                whole.host.file(name),
+                host.file(name),
+            ) {
                 return Ok(Some(format!(in alloc; "{name} is wrong where call {number} fails")?));
             }
         }
