@@ -37,6 +37,7 @@ impl Host for Recorder {
 }
 
 /// A command, the files that are there before it, by their names, and the most bytes that one call reads.
+#[derive(Clone, Copy)]
 pub struct Struck<'a> {
     pub words: &'a [String],
     pub files: &'a MemoryHost,
