@@ -3,7 +3,7 @@
 
 Usage: scripts/scipy_check.py [--program PROGRAM] [PLAN..]   (by default crates/filter_cli/out/filter_cli, which `./wadrelion` builds)
 
-scipy.signal.upfirdn filters whole numbers of 64 bits; a plan whose values may be greater is left out. Ends with 1 where a value differs, and with 2
+scipy.signal.convolve adds up products of whole numbers of 64 bits; a plan whose values may be greater is left out. Ends with 1 where a value differs, and with 2
 where scipy isn't installed.
 """
 
@@ -19,7 +19,7 @@ COUNT = 1_000_000
 
 try:
     import numpy
-    from scipy.signal import upfirdn
+    from scipy.signal import convolve
 except ImportError:
     print("scipy isn't installed")
     sys.exit(2)
@@ -27,8 +27,9 @@ except ImportError:
 
 def filtered(values, taps, up, down):
     """As many values as there are inputs for: those from index 0 on that the inputs reach."""
-    length = -(-len(values) * up // down)
-    return upfirdn(numpy.array(taps, dtype=numpy.int64), values, up, down)[:length]
+    stuffed = numpy.zeros(len(values) * up, dtype=numpy.int64)
+    stuffed[::up] = values
+    return convolve(stuffed, numpy.array(taps, dtype=numpy.int64), method="direct")[: len(stuffed) : down]
 
 
 def moving(factor, delay, stages):
