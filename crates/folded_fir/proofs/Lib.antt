@@ -1,2 +1,4 @@
 pub mod RoundLemmas
 pub mod CopyLemmas
+pub mod CopyNetLemmas
+pub mod AccumulateLemmas

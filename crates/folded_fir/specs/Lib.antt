@@ -1,1 +1,4 @@
 pub mod Rounds
+pub mod Cells
+pub mod Copies
+pub mod Accumulators
