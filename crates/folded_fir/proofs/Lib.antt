@@ -2,3 +2,4 @@ pub mod RoundLemmas
 pub mod CopyLemmas
 pub mod CopyNetLemmas
 pub mod AccumulateLemmas
+pub mod AccumulatorLemmas

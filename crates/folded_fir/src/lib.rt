@@ -2,4 +2,5 @@
 //! slot. The crate owns this form; it must know no other stage. The chain relies on it.
 #![tactic(auto)]
 
+mod accumulators;
 mod copies;
