@@ -3,4 +3,6 @@
 #![tactic(auto)]
 
 mod accumulators;
+mod cells;
 mod copies;
+mod operands;
