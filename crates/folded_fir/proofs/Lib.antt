@@ -6,3 +6,5 @@ pub mod AccumulatorLemmas
 pub mod CellLemmas
 pub mod OperandLemmas
 pub mod SlotLemmas
+pub mod ControlLemmas
+pub mod SumLemmas

@@ -4,5 +4,7 @@
 
 mod accumulators;
 mod cells;
+mod control;
 mod copies;
 mod operands;
+mod sums;
