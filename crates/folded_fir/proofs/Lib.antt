@@ -1,0 +1,10 @@
+pub mod RoundLemmas
+pub mod CopyLemmas
+pub mod CopyNetLemmas
+pub mod AccumulateLemmas
+pub mod AccumulatorLemmas
+pub mod CellLemmas
+pub mod OperandLemmas
+pub mod SlotLemmas
+pub mod ControlLemmas
+pub mod SumLemmas
