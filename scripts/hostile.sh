@@ -82,7 +82,7 @@ def hurt(bytes_):
 def case():
     """The words of a command, its files, and the names of its outputs."""
     files = {"plan": draw.choice(PLANS), "taps": draw.choice(TAPS), "samples": draw.choice(SAMPLES), "text": TEXT, "stimulus": draw.choice(STIMULI)}
-    word = draw.choice(("compile", "run", "extreme", "noble", "sim", "order"))
+    word = draw.choice(("compile", "run", "extreme", "noble", "migrate", "sim", "order"))
     reads = ["text", "stimulus"] if word in ("sim", "order") else ["plan", "taps"] + ["samples"] * (word == "run")
     for name in draw.sample(reads, draw.choice((1, 1, 1, 2))):
         files[name] = hurt(files[name])
@@ -90,7 +90,7 @@ def case():
         del files[draw.choice(reads)]
     register = draw.choice(("s1_w0", "s1_a0", "out_q", "s2_a1", "", "\u00e9", "x" * 300))
     words = {"compile": ["compile", "plan", "out", "report"], "run": ["run", "plan", "samples", "out"], "extreme": ["extreme", "plan", register, "out"],
-             "noble": ["noble", "plan", "out"], "sim": ["sim", "text", "stimulus", "out"], "order": ["order", "text", "stimulus", "out", str(draw.randrange(2**64))]}
+             "noble": ["noble", "plan", "out"], "migrate": ["migrate", "plan", "out"], "sim": ["sim", "text", "stimulus", "out"], "order": ["order", "text", "stimulus", "out", str(draw.randrange(2**64))]}
     return words[word], files, ["out", "report"] if word == "compile" else ["out"]
 
 

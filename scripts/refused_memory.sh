@@ -48,13 +48,14 @@ words_of() {
     run) echo run plan samples out ;;
     extreme) echo extreme plan s1_w0 out ;;
     noble) echo noble plan out ;;
+    migrate) echo migrate plan out ;;
     sim) echo sim text stimulus out ;;
     order) echo order text stimulus out 7 ;;
     demo) echo demo 1 out ;;
     *) echo "$0: no command is named $1" >&2; exit 2 ;;
     esac
 }
-[ $# -gt 0 ] || set -- compile run extreme noble sim order demo
+[ $# -gt 0 ] || set -- compile run extreme noble migrate sim order demo
 for command in "$@"; do
     words=$(words_of "$command") || exit 2
     # shellcheck disable=SC2086
