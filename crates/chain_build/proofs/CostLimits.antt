@@ -14,13 +14,13 @@ use Rattle.plan_check.specs.declared.fault.CostWhich.{CostWhich}
 use Rattle.plan_check.specs.declared.fault.CostWhich.TheVariants.{Response as ResponseCost, Cycle as CycleCost}
 use Rattle.plan_check.specs.Accepted.{IsAccepted, no_tally}
 use Rattle.plan_check.specs.Amounts.{rate_test}
-use Rattle.plan_check.specs.Costs.{gcd_to, gcd, Spread, Tally, memory_of, spread_after, tally_after, linear_spread, over, linear_test, cost_test}
+use Rattle.plan_check.specs.Costs.{gcd, Spread, Tally, memory_of, spread_after, tally_after, linear_spread, over, linear_test, cost_test}
 use Rattle.plan_check.specs.Groups.{size_of, last_of, first_failing}
 use Rattle.plan_check.proofs.GroupSplit.{size_low, tail_limits}
 use Rattle.plan_check.proofs.Options.{none_of}
 use Rattle.plan_laws.proofs.Passes.{passes_of}
 use Rattle.impulse_phase.specs.Reach.{extent}
-use Rattle.impulse_phase.specs.Response.{common_to, common, full_cycle, AreLinear}
+use Rattle.impulse_phase.specs.Response.{full_cycle, AreLinear}
 use Rattle.impulse_phase.proofs.Prefix.{common-turns, common-positive}
 use Rattle.chain_build.specs.Built.{has_rounding, IsPlainGroup}
 use Rattle.chain_build.proofs.Measures.{Measure, measure_of, measure_after, measure_all, at_first, measure-is}
@@ -32,18 +32,6 @@ use Rattle.chain_build.proofs.Walk.{HasRate, rate_passes, period-whole, cancel}
 
 over-passes : (element : ℕ) (which : CostWhich) (value most : ℕ) → over element which value most ≡ None → value ≤ most
 over-passes element which value most e = grind arith
-
--- the two ways to a greatest common divisor are one
-gcd-is : (f g a b : ℕ) → b ≤ f → b ≤ g → gcd_to f a b ≡ common_to g a b
-gcd-is zero zero a b h k = refl
-gcd-is zero (suc g) a zero h k = refl
-gcd-is zero (suc g) a (suc b) h k = absurd (omega arith)
-gcd-is (suc f) zero a zero h k = refl
-gcd-is (suc f) zero a (suc b) h k = absurd (omega arith)
-gcd-is (suc f) (suc g) a zero h k = refl
-gcd-is (suc f) (suc g) a (suc b) h k =
-    let below = mod_below a (suc b) (omega arith) in
-    gcd-is f g (suc b) (a % suc b) (omega (arith, below)) (omega (arith, below))
 
 -- the tests of a group that doesn't round, on values with this spread and period
 pub record HasCosts (ticks : ℕ) (g : Group) (period : ℕ) (s : Spread) : Type 0 where
@@ -105,7 +93,6 @@ module _ (ticks : ℕ) (some_ticks : 0 < ticks) (g : Group) (t : Tally) (s : Spr
   same_classes : next.classes ≡ after_it.classes
   same_classes =
       ap (λ (n : ℕ). n * up_factor g / gcd (n * up_factor g) (down_factor g)) here.classes
-      ∙ ap (λ (n : ℕ). m.classes * up_factor g / n) (gcd-is (suc (down_factor g)) (down_factor g) (m.classes * up_factor g) (down_factor g) (omega arith) (omega arith))
 
   some_classes : 0 < after_it.classes
   some_classes = common-positive (m.classes * up_factor g) (down_factor g) (positive m.classes (up_factor g) here.some raises)
@@ -115,7 +102,7 @@ module _ (ticks : ℕ) (some_ticks : 0 < ticks) (g : Group) (t : Tally) (s : Spr
       let a = m.classes * up_factor g in
       let d = down_factor g in
       cancel (after_it.classes * period_after g period) (after_it.step * ticks) (up_factor g) raises
-      (even-on (a / common a d) (d / common a d) a d m.classes (up_factor g) period (period_after g period) m.step ticks (common-turns a d) refl (period-whole g period rate) here.even)
+      (even-on (a / gcd a d) (d / gcd a d) a d m.classes (up_factor g) period (period_after g period) m.step ticks (common-turns a d) refl (period-whole g period rate) here.even)
 
   stretch : m.reach + ceil_div (memory_of g * m.down) (m.up * up_factor g) ≤ next.reach
   stretch =

@@ -1,14 +1,14 @@
 -- The classes of a chain's indices, and how far its values reach, group by group.
-use Rattle.std.proofs.Common.{◌≡◌, ◌∙◌, ℕ, zero, suc, ◌+◌, ◌-◌, ◌*◌, ◌/◌, ◌<◌, refl, sym, ap, arith, List, [], ◌∷◌, length, ℤ, None, Some}
+use Rattle.std.proofs.Common.{◌≡◌, ◌∙◌, ℕ, zero, suc, ◌+◌, ◌-◌, ◌*◌, ◌/◌, ◌%◌, ◌<◌, refl, sym, ap, arith, List, [], ◌∷◌, length, ℤ, None, Some}
 use Rattle.std.proofs.lemmas.Nat.{div-add-mod', mod_below, div_below}
 use Rattle.mr_values.specs.declared.plan.Element.{Element}
 use Rattle.mr_values.specs.declared.plan.Element.TheVariants.{Up, Down, Filter, CicDown, CicUp, Round, Clip}
 use Rattle.mr_values.specs.declared.plan.Form.{Form}
 use Rattle.mr_values.specs.Timing.{Group, Fir, DownCic, UpCic, Rounding, Clipping, ceil_div, groups, join_up, join_filter, up_factor, down_factor}
 use Rattle.mr_values.specs.Value.{size}
-use Rattle.plan_check.specs.Costs.{memory_of}
+use Rattle.plan_check.specs.Costs.{memory_of, gcd_to, gcd}
 use Rattle.impulse_phase.specs.Reach.{Extent, extent_after, extent_after_all, extent}
-use Rattle.impulse_phase.specs.Response.{Cycle, common, cycle_after, cycle_after_all, full_cycle, AreLinear}
+use Rattle.impulse_phase.specs.Response.{Cycle, cycle_after, cycle_after_all, full_cycle, AreLinear}
 
 -- the classes and the samples of a round of them; the factors so far, and how many samples a value depends on
 pub record Measure : Type 0 where
@@ -25,7 +25,7 @@ abbrev pub raised : ℕ → Measure → Measure
 raised factor m = record { classes = m.classes * factor; step = m.step; up = m.up * factor; down = m.down; reach = m.reach }
 
 abbrev pub thinned : ℕ → Measure → Measure
-thinned factor m = record { classes = m.classes / common m.classes factor; step = factor / common m.classes factor * m.step; up = m.up; down = factor * m.down; reach = m.reach }
+thinned factor m = record { classes = m.classes / gcd m.classes factor; step = factor / gcd m.classes factor * m.step; up = m.up; down = factor * m.down; reach = m.reach }
 
 abbrev pub remembering : ℕ → Measure → Measure
 remembering steps m = record { classes = m.classes; step = m.step; up = m.up; down = m.down; reach = m.reach + ceil_div (steps * m.down) m.up }
@@ -57,7 +57,9 @@ thinned-once : (m : Measure) → thinned 1 m ≡ m
 thinned-once m =
     let whole : m.classes / 1 ≡ m.classes = omega (arith, div-add-mod' m.classes 1, mod_below m.classes 1 (omega arith)) in
     let one : 1 / 1 * m.step ≡ m.step = omega arith in
-    same_measure (thinned 1 m) m whole one refl (omega arith) refl
+    let last : m.classes % 1 ≡ 0 = omega (arith, mod_below m.classes 1 (omega arith)) in
+    let shared : gcd m.classes 1 ≡ 1 = ap (λ (n : ℕ). gcd_to 1 1 n) last in
+    same_measure (thinned 1 m) m (ap (λ (n : ℕ). m.classes / n) shared ∙ whole) (ap (λ (n : ℕ). 1 / n * m.step) shared ∙ one) refl (omega arith) refl
 
 no_steps : (steps down up : ℕ) → 0 < up → steps ≡ 0 → ceil_div (steps * down) up ≡ 0
 no_steps steps down up some none =

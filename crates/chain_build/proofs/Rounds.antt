@@ -4,12 +4,12 @@ use Rattle.std.specs.Int.{IsGcd, ◌∣◌}
 use Rattle.std.proofs.Math.Nat.{dvd-mul_left_of_dvd, dvd-add_iff_right}
 use Rattle.std.proofs.lemmas.Nat.{div-add-mod', mod_below, le-div}
 use Rattle.std.proofs.lemmas.Nat.Gcd.{mod-eq-zero_of_dvd, same_from_IsGcd}
-use Rattle.impulse_phase.specs.Response.{common_to, common}
-use Rattle.impulse_phase.proofs.Prefix.{common-is}
+use Rattle.plan_check.specs.Costs.{gcd_to, gcd}
+use Rattle.plan_check.proofs.Divisors.{IsGcd-gcd}
 
 -- what divides k times two numbers divides k times their greatest common divisor
-times-common : (fuel a b k d : ℕ) → b ≤ fuel → d ∣ k * a → d ∣ k * b → d ∣ k * common_to fuel a b
-times-common zero a b k d h p q = p
+times-common : (fuel a b k d : ℕ) → b < fuel → d ∣ k * a → d ∣ k * b → d ∣ k * gcd_to fuel a b
+times-common zero a b k d h p q = absurd (omega arith)
 times-common (suc fuel) a zero k d h p q = p
 times-common (suc fuel) a (suc b) k d h p q =
     let whole = a / suc b in
@@ -28,22 +28,22 @@ left-some (suc a) b n e h = omega arith
 
 -- A stage takes `down` values for each `up` that it gives. Where so many classes come in, a class of the stage's own whose modulus divides
 -- down / gcd(up, down) goes round in at most as many of the old rounds as the classes behind the stage.
-pub round-within : (classes up down modulus shared times : ℕ) → 0 < down → IsGcd up down shared → down ≡ shared * (times * modulus) → modulus / common classes modulus ≤ down / common (classes * up) down
+pub round-within : (classes up down modulus shared times : ℕ) → 0 < down → IsGcd up down shared → down ≡ shared * (times * modulus) → modulus / gcd classes modulus ≤ down / gcd (classes * up) down
 round-within classes up down modulus shared times some greatest divides =
-    let outer = common (classes * up) down in
-    let inner = common classes modulus in
-    let own = common-is (classes * up) down in
-    let both : outer ∣ classes * common up down = times-common down up down classes outer (omega arith) own.0 (dvd-mul_left_of_dvd outer own.1 classes) in
-    let alike : common up down ≡ shared = same_from_IsGcd up down (common up down) shared (common-is up down) greatest in
-    let over : times * (classes * common up down) ≡ shared * times * classes = ap (λ (n : ℕ). times * (classes * n)) alike ∙ omega arith in
+    let outer = gcd (classes * up) down in
+    let inner = gcd classes modulus in
+    let own = IsGcd-gcd (classes * up) down in
+    let both : outer ∣ classes * gcd up down = times-common (suc down) up down classes outer (omega arith) own.0 (dvd-mul_left_of_dvd outer own.1 classes) in
+    let alike : gcd up down ≡ shared = same_from_IsGcd up down (gcd up down) shared (IsGcd-gcd up down) greatest in
+    let over : times * (classes * gcd up down) ≡ shared * times * classes = ap (λ (n : ℕ). times * (classes * n)) alike ∙ omega arith in
     let first : outer ∣ shared * times * classes = subst (λ (n : ℕ). outer ∣ n) over (dvd-mul_left_of_dvd outer both times) in
     let is_down : down ≡ shared * times * modulus = divides ∙ omega arith in
     let second : outer ∣ shared * times * modulus = subst (λ (n : ℕ). outer ∣ n) is_down own.1 in
-    let third : outer ∣ shared * times * inner = times-common modulus classes modulus (shared * times) outer (omega arith) first second in
+    let third : outer ∣ shared * times * inner = times-common (suc modulus) classes modulus (shared * times) outer (omega arith) first second in
     let most = shared * times * inner / outer in
     let turns = modulus / inner in
     let covers : most * outer ≡ shared * times * inner = quotient-whole (shared * times * inner) outer third in
-    let rounds : turns * inner ≡ modulus = quotient-whole modulus inner (common-is classes modulus).1 in
+    let rounds : turns * inner ≡ modulus = quotient-whole modulus inner (IsGcd-gcd classes modulus).1 in
     let regroup : most * (turns * outer) ≡ turns * (most * outer) = omega arith in
     let again : turns * (shared * times * inner) ≡ shared * times * (turns * inner) = omega arith in
     let product : most * (turns * outer) ≡ down =

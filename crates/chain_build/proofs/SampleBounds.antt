@@ -7,7 +7,8 @@ use Rattle.mr_values.specs.declared.plan.Element.{Element}
 use Rattle.mr_values.specs.Timing.{ceil_div}
 use Rattle.mr_values.specs.Value.{size, chain}
 use Rattle.impulse_phase.specs.Reach.{extent}
-use Rattle.impulse_phase.specs.Response.{Response, responses, full_cycle, common, AreLinear}
+use Rattle.impulse_phase.specs.Response.{Response, responses, full_cycle, AreLinear}
+use Rattle.plan_check.specs.Costs.{gcd}
 use Rattle.impulse_phase.proofs.Prefix.{prefix-has, common-turns}
 use Rattle.impulse_phase.proofs.Reach.{prefix-extent, factor-le}
 use Rattle.impulse_phase.proofs.Steps.{recurs-times}
@@ -100,7 +101,7 @@ size-most (negsuc n) most h = omega arith
 pub few-samples : (es : List Element) (form : List ℤ) (class : Class) (count index : ℕ) → AreLinear es → ReadsFew es form class → index ≤ soon_after es form class → count ≤ suc (size (responses es (pos index)).newest) → count ≤ 2 ^ 27
 few-samples es form class count index linear reads soon few =
     let classes = (full_cycle es).classes in
-    let turns = class.modulus / common classes class.modulus in
+    let turns = class.modulus / gcd classes class.modulus in
     let rounds : finer_classes classes class.modulus * class.modulus ≡ turns * classes = common-turns classes class.modulus in
     let near = read-soon es linear (length form) (2 ^ 20 + 2 * (full_cycle es).step) (extent es).reach turns index reads.behind (omega (arith, soon, rounds)) in
     let most = size-most (responses es (pos index)).newest (2 ^ 20 + 2 * (full_cycle es).step + (extent es).reach + (full_cycle es).step + turns * (full_cycle es).step) near in

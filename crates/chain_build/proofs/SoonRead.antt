@@ -7,12 +7,12 @@ use Rattle.mr_values.specs.declared.plan.Plan.{Plan}
 use Rattle.mr_values.specs.Timing.{Group, Fir, DownCic, UpCic, Rounding, Clipping, ceil_div, groups, wide, up_factor, down_factor}
 use Rattle.mr_values.specs.Value.{size}
 use Rattle.plan_check.specs.Accepted.{IsAccepted}
-use Rattle.plan_check.specs.Costs.{memory_of}
+use Rattle.plan_check.specs.Costs.{memory_of, gcd_to, gcd}
 use Rattle.plan_check.specs.Forms.{Flow, group_fits}
 use Rattle.plan_check.proofs.GroupSplit.{size_low}
 use Rattle.plan_laws.proofs.Passes.{passes_of}
 use Rattle.impulse_phase.specs.Reach.{extent}
-use Rattle.impulse_phase.specs.Response.{common_to, common, full_cycle, AreLinear}
+use Rattle.impulse_phase.specs.Response.{full_cycle, AreLinear}
 use Rattle.impulse_phase.proofs.Reach.{factor-le}
 use Rattle.stage_law.specs.Facts.{StageFacts}
 use Rattle.stage_law.specs.Kinds.{is_linear}
@@ -49,10 +49,10 @@ linear-short (Rounding k m) flow facts built fits has is some = absurd (cc)
 linear-short (Clipping bits) flow facts built fits has is some = absurd (cc)
 
 -- every index is a class with one round
-one-turn : (classes step : ℕ) → 1 / common classes 1 * step ≡ step
+one-turn : (classes step : ℕ) → 1 / gcd classes 1 * step ≡ step
 one-turn classes step =
     let last : classes % 1 ≡ 0 = omega arith in
-    let one : common classes 1 ≡ 1 = ap (λ (n : ℕ). common_to 0 1 n) last in
+    let one : gcd classes 1 ≡ 1 = ap (λ (n : ℕ). gcd_to 1 1 n) last in
     ap (λ (n : ℕ). 1 / n * step) one ∙ omega arith
 
 both_some : (a b : ℕ) → 0 < a → 0 < b → 0 < a * b
@@ -84,11 +84,11 @@ module _ (plan : Plan) (es : List Element) (front : List Group) (accepted : IsAc
       let near = h.stands.near in
       let own = h.stands.reach in
       let within = round-within (full_cycle es).classes facts.up facts.down s.class.modulus timely.shared timely.times some_down timely.greatest timely.divides in
-      let behind_it : facts.down / common ((full_cycle es).classes * facts.up) facts.down ≡ down_factor g / common ((full_cycle es).classes * up_factor g) (down_factor g) =
-      ap (λ (n : ℕ). facts.down / common ((full_cycle es).classes * n) facts.down) up_is ∙ ap (λ (n : ℕ). n / common ((full_cycle es).classes * up_factor g) n) down_is in
-      let turn : s.class.modulus / common (full_cycle es).classes s.class.modulus * (full_cycle es).step ≤ facts.down / common ((full_cycle es).classes * facts.up) facts.down * (full_cycle es).step = mul-le-mul_right (full_cycle es).step within in
-      let same : facts.down / common ((full_cycle es).classes * facts.up) facts.down * (full_cycle es).step ≡ down_factor g / common ((full_cycle es).classes * up_factor g) (down_factor g) * (full_cycle es).step = ap (λ (n : ℕ). n * (full_cycle es).step) behind_it in
-      let next : down_factor g / common ((full_cycle es).classes * up_factor g) (down_factor g) * (full_cycle es).step ≤ 2 ^ 24 = round_next (size plan.ticks) some_ticks g h.t h.s (measure_of (full_cycle es) (extent es)) raises h.stands (head_rate h) (head_costs h plain) in
+      let behind_it : facts.down / gcd ((full_cycle es).classes * facts.up) facts.down ≡ down_factor g / gcd ((full_cycle es).classes * up_factor g) (down_factor g) =
+      ap (λ (n : ℕ). facts.down / gcd ((full_cycle es).classes * n) facts.down) up_is ∙ ap (λ (n : ℕ). n / gcd ((full_cycle es).classes * up_factor g) n) down_is in
+      let turn : s.class.modulus / gcd (full_cycle es).classes s.class.modulus * (full_cycle es).step ≤ facts.down / gcd ((full_cycle es).classes * facts.up) facts.down * (full_cycle es).step = mul-le-mul_right (full_cycle es).step within in
+      let same : facts.down / gcd ((full_cycle es).classes * facts.up) facts.down * (full_cycle es).step ≡ down_factor g / gcd ((full_cycle es).classes * up_factor g) (down_factor g) * (full_cycle es).step = ap (λ (n : ℕ). n * (full_cycle es).step) behind_it in
+      let next : down_factor g / gcd ((full_cycle es).classes * up_factor g) (down_factor g) * (full_cycle es).step ≤ 2 ^ 24 = round_next (size plan.ticks) some_ticks g h.t h.s (measure_of (full_cycle es) (extent es)) raises h.stands (head_rate h) (head_costs h plain) in
       record { round = h.stands.round; turn = omega (arith, turn, same, next); reach = omega (arith, own, near); behind = omega (arith, ints, read, few) }
 
   -- the chain's values themselves
@@ -99,7 +99,7 @@ module _ (plan : Plan) (es : List Element) (front : List Group) (accepted : IsAc
       let near = h.stands.near in
       let own = h.stands.reach in
       let round = h.stands.round in
-      let once : each_index.modulus / common (full_cycle es).classes each_index.modulus * (full_cycle es).step ≡ (full_cycle es).step = one-turn (full_cycle es).classes (full_cycle es).step in
+      let once : each_index.modulus / gcd (full_cycle es).classes each_index.modulus * (full_cycle es).step ≡ (full_cycle es).step = one-turn (full_cycle es).classes (full_cycle es).step in
       record { round = round; turn = omega (arith, once, round); reach = omega (arith, own, near); behind = omega (arith, ints, read) }
 
 -- ---- the sum that needs a register's width

@@ -2,7 +2,8 @@
 use Rattle.std.specs.Prelude.{ℕ, ◌+◌, ◌*◌, ◌/◌, ◌^◌, ◌≤◌, List, length, ℤ, pos, ◌≤ℤ◌}
 use Rattle.mr_values.specs.declared.plan.Element.{Element}
 use Rattle.impulse_phase.specs.Reach.{extent}
-use Rattle.impulse_phase.specs.Response.{responses, full_cycle, common}
+use Rattle.impulse_phase.specs.Response.{responses, full_cycle}
+use Rattle.plan_check.specs.Costs.{gcd}
 use Rattle.stage_law.specs.declared.ranges.Class.{Class}
 use Rattle.width_extreme.specs.Prefix.{finer_classes}
 
@@ -15,6 +16,6 @@ soon_after elements form class =
 -- before as many indices as the form has weights.
 pub record ReadsFew (elements : List Element) (form : List ℤ) (class : Class) : Type 0 where
   pub round : (full_cycle elements).step ≤ 2 ^ 24
-  pub turn : class.modulus / common (full_cycle elements).classes class.modulus * (full_cycle elements).step ≤ 2 ^ 24
+  pub turn : class.modulus / gcd (full_cycle elements).classes class.modulus * (full_cycle elements).step ≤ 2 ^ 24
   pub reach : (extent elements).reach ≤ 2 ^ 20
   pub behind : (responses elements (pos (length form))).newest ≤ℤ pos (2 ^ 20 + 2 * (full_cycle elements).step)

@@ -25,7 +25,7 @@ use Rattle.plan_check.specs.Amounts.{rate_test, peak_test, peak_after, bound_tes
 use Rattle.plan_check.specs.Costs.{over, Spread, Tally, spread_after, spread_test, linear_test, linear_spread, cost_test, tally_after, terms_of, memory_of, gcd}
 use Rattle.plan_check.specs.Accepted.{rates_test, peaks_test, bounds_test, costs_test, no_tally, IsAccepted}
 use Rattle.plan_check.proofs.Acceptance.{accepted_from}
-use Rattle.plan_check.proofs.Logarithm.{ceil_log_small}
+use Rattle.mr_values.proofs.Logarithm.{ceil_log_small}
 use Rattle.plan_check.proofs.TermSums.{terms_whole}
 use Rattle.demo_plan.specs.Drawn.{state_after, draw_after, factor_drawn, stages_drawn, delay_drawn, tap_of, taps_from, taps_drawn, elements_drawn, plan_drawn}
 

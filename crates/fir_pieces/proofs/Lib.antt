@@ -1,4 +1,3 @@
-pub mod Logarithm
 pub mod FormLemmas
 pub mod TermLemmas
 pub mod ReadingLemmas

@@ -14,7 +14,7 @@ use Rattle.net_graph.specs.declared.name.NameKind.{NameKind}
 use Rattle.net_graph.specs.Cells.{cell_at}
 use Rattle.net_graph.proofs.CellLemmas.{cell_at-is}
 use Rattle.pipeline_balance.specs.Numbered.{IsRegister, name_of}
-use Rattle.plan_check.proofs.LeastBits.{wide_least}
+use Rattle.mr_values.proofs.LeastBits.{wide_least}
 use Rattle.stage_law.specs.Least.{named_peak}
 use Rattle.stage_law.specs.Range.{IsRange}
 use Rattle.stage_law.specs.Registers.{HeldSum, StageRegister, Telling, TellsRanges, NamedPeak, bits_for, bits_of, needing, needs_high, peak_at as listed_peak, peak_of, peaks_of}

@@ -17,7 +17,7 @@ pub fn adders_for(terms: u64, negative: bool) -> u64
 }
 
 /// The least `k` with `n ≤ 2^k`.
-#[tactic(auto, using(crate::proofs::Logarithm::ceil_log_more, crate::proofs::Logarithm::ceil_log_end, crate::proofs::Logarithm::ceil_log_small))]
+#[tactic(auto, using(mr_values::proofs::Logarithm::ceil_log_more, mr_values::proofs::Logarithm::ceil_log_end, mr_values::proofs::Logarithm::ceil_log_small))]
 pub fn ceil_log(n: u64) -> u32
     requires { n < 2 ^ 31 }
     ensures { result ≡ ceil_log n }

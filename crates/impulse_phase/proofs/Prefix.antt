@@ -3,23 +3,16 @@ use Rattle.std.proofs.Common.{◌≡◌, ℕ, zero, suc, ◌+◌, ◌*◌, ◌/�
 use Rattle.std.proofs.lemmas.Int.{ints}
 use Rattle.std.specs.Int.{IsGcd}
 use Rattle.std.proofs.lemmas.Nat.{div-add-mod', mod_below}
-use Rattle.std.proofs.lemmas.Nat.Gcd.{IsGcd-from_zero, IsGcd-from_mod, mod-eq-zero_of_dvd}
+use Rattle.std.proofs.lemmas.Nat.Gcd.{mod-eq-zero_of_dvd}
 use Rattle.std.proofs.Math.Nat.{mul_left_comm}
 use Rattle.mr_values.specs.declared.plan.Element.{Element}
 use Rattle.mr_values.specs.declared.plan.Element.TheVariants.{Up, Down, Filter, CicDown, CicUp, Round, Clip}
 use Rattle.mr_values.specs.Sequence.{Sequence, samples, weighted_sum, ones, up, down, filter_times}
 use Rattle.mr_values.specs.Value.{size, apply, chain, val}
-use Rattle.impulse_phase.specs.Response.{Response, Responses, respond, through_up, through_down, through_filters, through, through_all, direct, responses, HasResponses, Cycle, common_to, common, cycle_down, cycle_after, cycle_after_all, full_cycle, IsLinear, AreLinear}
+use Rattle.impulse_phase.specs.Response.{Response, Responses, respond, through_up, through_down, through_filters, through, through_all, direct, responses, HasResponses, Cycle, cycle_down, cycle_after, cycle_after_all, full_cycle, IsLinear, AreLinear}
+use Rattle.plan_check.specs.Costs.{gcd}
+use Rattle.plan_check.proofs.Divisors.{IsGcd-gcd}
 use Rattle.impulse_phase.proofs.Steps.{direct-has, filter-keeps, down-keeps, up-keeps, filters-keep, recurs-times}
-
-common_to-is : (fuel a b : ℕ) → b ≤ fuel → IsGcd a b (common_to fuel a b)
-common_to-is zero a b h = IsGcd-from_zero a b (omega arith)
-common_to-is (suc fuel) a zero h = IsGcd-from_zero a zero refl
-common_to-is (suc fuel) a (suc b) h =
-    IsGcd-from_mod a (suc b) (common_to fuel (suc b) (a % suc b)) (common_to-is fuel (suc b) (a % suc b) (omega (arith, mod_below a (suc b) (omega arith))))
-
-pub common-is : (a b : ℕ) → IsGcd a b (common a b)
-common-is a b = common_to-is b a b (omega arith)
 
 -- a multiple of what divides it
 quotient-whole : (a g : ℕ) → a % g ≡ 0 → a / g * g ≡ a
@@ -33,26 +26,26 @@ product-positive : (a b : ℕ) → 0 < a → 0 < b → 0 < a * b
 product-positive zero b ha hb = absurd (omega arith)
 product-positive (suc a) b ha hb = omega arith
 
-pub common-turns : (a b : ℕ) → (a / common a b * b ≡ b / common a b * a)
+pub common-turns : (a b : ℕ) → (a / gcd a b * b ≡ b / gcd a b * a)
 common-turns a b =
-    let greatest = common-is a b in
-    let g = common a b in
+    let greatest = IsGcd-gcd a b in
+    let g = gcd a b in
     let left = quotient-whole a g (mod-eq-zero_of_dvd g greatest.0) in
     let right = quotient-whole b g (mod-eq-zero_of_dvd g greatest.1) in
     ap (λ (n : ℕ). a / g * n) (sym right) ∙ mul_left_comm (a / g) (b / g) g ∙ ap (λ (n : ℕ). b / g * n) left
 
-pub common-positive : (a b : ℕ) → 0 < a → 0 < a / common a b
-common-positive a b h = factor-positive (a / common a b) (common a b) a (quotient-whole a (common a b) (mod-eq-zero_of_dvd (common a b) (common-is a b).0)) h
+pub common-positive : (a b : ℕ) → 0 < a → 0 < a / gcd a b
+common-positive a b h = factor-positive (a / gcd a b) (gcd a b) a (quotient-whole a (gcd a b) (mod-eq-zero_of_dvd (gcd a b) (IsGcd-gcd a b).0)) h
 
-pub common-positive_right : (a b : ℕ) → 0 < b → 0 < b / common a b
-common-positive_right a b h = factor-positive (b / common a b) (common a b) b (quotient-whole b (common a b) (mod-eq-zero_of_dvd (common a b) (common-is a b).1)) h
+pub common-positive_right : (a b : ℕ) → 0 < b → 0 < b / gcd a b
+common-positive_right a b h = factor-positive (b / gcd a b) (gcd a b) b (quotient-whole b (gcd a b) (mod-eq-zero_of_dvd (gcd a b) (IsGcd-gcd a b).1)) h
 
 pub down-turns : (factor : ℕ) (transform : Sequence → Sequence) (f : Responses) (p : Cycle) → 0 < factor → HasResponses transform f p.classes p.step
     → HasResponses (λ x. down factor (transform x)) (through_down factor f) (cycle_down factor p).classes (cycle_down factor p).step
 down-turns factor transform f p positive h =
-    down-keeps factor (factor / common p.classes factor) (p.classes / common p.classes factor) (factor / common p.classes factor * p.step) transform f p.classes p.step h
+    down-keeps factor (factor / gcd p.classes factor) (p.classes / gcd p.classes factor) (factor / gcd p.classes factor * p.step) transform f p.classes p.step h
     (common-positive p.classes factor h.has_class)
-    (product-positive (factor / common p.classes factor) p.step (common-positive_right p.classes factor positive) h.has_step)
+    (product-positive (factor / gcd p.classes factor) p.step (common-positive_right p.classes factor positive) h.has_step)
     (common-turns p.classes factor)
     refl
 

@@ -12,7 +12,8 @@ use Rattle.mr_values.specs.Value.{size}
 use Rattle.mr_values.proofs.Division.{floor_unique, floor_split, floor_remainder_below}
 use Rattle.impulse_phase.specs.declared.table.Row.{Row}
 use Rattle.impulse_phase.specs.declared.table.Response.{Response as Table}
-use Rattle.impulse_phase.specs.Response.{Response, Responses, later, combined, through_up, through_down, through_filter, HasResponses, Cycle, common_to, common}
+use Rattle.impulse_phase.specs.Response.{Response, Responses, later, combined, through_up, through_down, through_filter, HasResponses, Cycle}
+use Rattle.plan_check.specs.Costs.{gcd}
 use Rattle.impulse_phase.specs.Reading.{as_response, silent, rows_of, cycle_of, told, responses_of, IsTable, IsAhead, Passes, IsPlaceBefore}
 use Rattle.impulse_phase.proofs.Steps.{recurs-times}
 use Rattle.impulse_phase.proofs.Prefix.{common-turns}
@@ -139,11 +140,11 @@ down_place rows step factor index r some is =
     ∙ sym (told_at rows step (pos index *ℤ pos factor) (pos (place / length rows)) (place % length rows) (mod_below place (length rows) some) at)
 
 -- the rounds before an index after a down are fewer than the samples' rounds
-turns_below : (classes factor index : ℕ) → 0 < classes → index < classes / common classes factor → 0 < factor → index * factor / classes < factor / common classes factor
-turns_below classes factor index some below positive = by_gap (factor / common classes factor - index * factor / classes) refl
+turns_below : (classes factor index : ℕ) → 0 < classes → index < classes / gcd classes factor → 0 < factor → index * factor / classes < factor / gcd classes factor
+turns_below classes factor index some below positive = by_gap (factor / gcd classes factor - index * factor / classes) refl
   where
     turns : ℕ
-    turns = factor / common classes factor
+    turns = factor / gcd classes factor
 
     rounds : ℕ
     rounds = index * factor / classes
@@ -152,13 +153,13 @@ turns_below classes factor index some below positive = by_gap (factor / common c
     by_gap (suc d) is = omega arith
     by_gap zero is =
         let most : turns * classes ≤ rounds * classes = mul-le-mul_right classes (omega arith) in
-        let last : (index + 1) * factor ≤ classes / common classes factor * factor = mul-le-mul_right factor (omega arith) in
+        let last : (index + 1) * factor ≤ classes / gcd classes factor * factor = mul-le-mul_right factor (omega arith) in
         absurd (omega (arith, most, last, add-mul index 1 factor, div-add-mod' (index * factor) classes, common-turns classes factor, positive))
 
-pub down_soon : (classes factor step index newest : ℕ) → 0 < classes → 0 < factor → index < classes / common classes factor → newest ≤ step
-    → newest + index * factor / classes * step ≤ factor / common classes factor * step
+pub down_soon : (classes factor step index newest : ℕ) → 0 < classes → 0 < factor → index < classes / gcd classes factor → newest ≤ step
+    → newest + index * factor / classes * step ≤ factor / gcd classes factor * step
 down_soon classes factor step index newest some positive below soon =
-    let last : (index * factor / classes + 1) * step ≤ factor / common classes factor * step = mul-le-mul_right step (omega (arith, turns_below classes factor index some below positive)) in
+    let last : (index * factor / classes + 1) * step ≤ factor / gcd classes factor * step = mul-le-mul_right step (omega (arith, turns_below classes factor index some below positive)) in
     omega (arith, last, add-mul (index * factor / classes) 1 step)
 
 -- ---- before an index
@@ -222,22 +223,3 @@ sums_room width stages stage gain some below room =
     let one : width * (width ^ stage * gain) ≡ width ^ suc stage * gain =
     sym (mul_assoc width (width ^ stage) gain) ∙ ap (λ (m : ℕ). m * gain) (mul_comm width (width ^ stage) ∙ sym (pow-suc width stage)) in
     omega (arith, one, mul-le-mul_right gain (pow-le-pow_right some below), room)
-
--- ---- Euclid
-
-same_fuel : (f g a b : ℕ) → b ≤ f → b ≤ g → common_to f a b ≡ common_to g a b
-same_fuel zero zero a b h k = refl
-same_fuel zero (suc g) a zero h k = refl
-same_fuel zero (suc g) a (suc b) h k = absurd (omega arith)
-same_fuel (suc f) zero a zero h k = refl
-same_fuel (suc f) zero a (suc b) h k = absurd (omega arith)
-same_fuel (suc f) (suc g) a zero h k = refl
-same_fuel (suc f) (suc g) a (suc b) h k =
-    let below = mod_below a (suc b) (omega arith) in
-    same_fuel f g (suc b) (a % suc b) (omega (arith, below)) (omega (arith, below))
-
-pub common_step : (a b whole : ℕ) → b ≢ 0 → common a b ≡ whole → common b (a % b) ≡ whole
-common_step a zero whole some is = absurd (some refl)
-common_step a (suc b) whole some is =
-    let below = mod_below a (suc b) (omega arith) in
-    same_fuel (a % suc b) b (suc b) (a % suc b) (omega arith) (omega (arith, below)) ∙ is

@@ -15,7 +15,6 @@ ghost use Rattle.impulse_phase.specs.Gain.{HasGain, gain_after_all};
 ghost use Rattle.impulse_phase.specs.Reach.{IsExtent, extent};
 ghost use Rattle.impulse_phase.specs.Response.{AreLinear, responses, full_cycle, HasResponses};
 
-pub use passage::common;
 pub use table::Response;
 
 /// Each value of a chain without roundings is a weighted sum of the samples, by the class of its index.

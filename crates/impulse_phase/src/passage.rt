@@ -5,13 +5,14 @@ ghost use Rattle.mr_values.specs.Sequence.{ones};
 ghost use Rattle.mr_values.specs.Value.{size, IsWithinLimits};
 ghost use Rattle.plan_check.specs.Amounts.{magnitude};
 ghost use Rattle.impulse_phase.specs.Gain.{HasGain};
-ghost use Rattle.impulse_phase.specs.Response.{through_up, through_down, through_filter, through_filters, through, IsLinear, common, cycle_up, cycle_down, cycle_after};
+ghost use Rattle.impulse_phase.specs.Response.{through_up, through_down, through_filter, through_filters, through, IsLinear, cycle_up, cycle_down, cycle_after};
 ghost use Rattle.impulse_phase.specs.Reading.{as_response, rows_of, responses_of, cycle_of, IsTable, IsAhead, Passes, HasRoomFor};
 
 use crate::filtered::filter_row;
 use crate::summed::through_sum;
 use crate::table::{Response, Row};
 use mr_values::{Element, Memory};
+use plan_check::gcd;
 use std::alloc::Global;
 
 impl Response {
@@ -94,7 +95,7 @@ impl Response {
         ensures { IfOk result (λ response. Passes (through_down factor) (cycle_down factor) self.now response) }
     {
         let classes = self.rows.len() as u64;
-        let common = common(classes, factor);
+        let common = gcd(classes, factor);
         let mut rows = Vec::new(alloc);
         for index in 0..classes / common {
             rows.push(self.down_row(alloc, factor, index)?)?;
@@ -160,20 +161,4 @@ fn size(number: i64) -> u64
     ensures { result ≡ size number }
 {
     if number < 0 { 0 } else { number as u64 }
-}
-
-/// The greatest common divisor, by Euclid.
-pub fn common(a: u64, b: u64) -> u64
-    requires { 0 < a }
-    ensures value { result ≡ common a b }
-    ensures some { 0 < result }
-{
-    let mut greater = a;
-    let mut less = b;
-    'divide: while less != 0 {
-        let rest = greater % less;
-        greater = less;
-        less = rest;
-    }
-    greater
 }

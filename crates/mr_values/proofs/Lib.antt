@@ -15,6 +15,9 @@ pub mod DigitSteps
 pub mod DigitRows
 pub mod PhaseSums
 pub mod TimingRows
+pub mod Logarithm
+pub mod LeastBits
+pub mod TimingLemmas
 pub mod FilesByName
 pub mod FilesRead
 pub mod HostSteps

@@ -5,6 +5,7 @@ pub mod RoundingLaws
 pub mod Value
 pub mod Digit
 pub mod Timing
+pub mod TimingLaws
 pub mod Faults
 pub mod Files
 pub mod CallNames

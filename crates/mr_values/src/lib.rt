@@ -11,6 +11,8 @@ mod plan;
 mod rounding;
 mod strikes;
 mod text;
+mod timing_laws;
+#[cfg(test)]
 mod value;
 mod width;
 
@@ -22,5 +24,5 @@ pub use memory_host::MemoryHost;
 pub use plan::{Element, Elements, Form, Mode, Plan, Taps};
 pub use rounding::{clipped, law_of_clip, law_of_half_even, rounded_to_even};
 pub use text::Text;
-pub use value::value_at;
+pub use timing_laws::{law_of_least, law_of_phases};
 pub use width::{fits, floor_divide, floor_modulo, floor_shift, least_width, power, wrap};

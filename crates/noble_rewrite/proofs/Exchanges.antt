@@ -2,7 +2,8 @@
 use Rattle.std.proofs.Common.{◌≡◌, ℕ, zero, suc, ◌<◌, ◌≤◌, Bool, true, false, cond, List, ℤ, pos, negsuc, None, Some, arith, refl, sym, subst, eqb}
 use Rattle.std.specs.Prelude.{int_le}
 use Rattle.std.specs.Int.{IsGcd}
-use Rattle.std.proofs.lemmas.Bool.{and_parts, eqb-true}
+use Rattle.std.proofs.lemmas.Bool.{and_parts, eqb-true, eq-eqb, ne_eqb}
+use Rattle.std.proofs.lemmas.Nat.Gcd.{same_from_IsGcd}
 use Rattle.std.proofs.lemmas.Option.{same_Some}
 use Rattle.mr_values.specs.declared.plan.Element.{Element}
 use Rattle.mr_values.specs.declared.plan.Element.TheVariants.{Up, Down, Filter, CicDown, CicUp, Round, Clip}
@@ -12,7 +13,7 @@ use Rattle.mr_values.specs.Value.{size, apply, IsFirst}
 use Rattle.mr_values.proofs.Noble.{down-up}
 use Rattle.plan_check.specs.Costs.{gcd}
 use Rattle.plan_check.proofs.Divisors.{IsGcd-gcd}
-use Rattle.noble_rewrite.specs.Rules.{Exchange, is_zero_off, is_thin, thinned, filter_down, up_filter, up_down, exchange}
+use Rattle.noble_rewrite.specs.Rules.{Exchange, is_zero_off, is_thin, thinned, filter_down, up_filter, up_down, exchange, ThirdRuleLaw}
 use Rattle.noble_rewrite.specs.Turns.{HasFactor}
 use Rattle.noble_rewrite.proofs.Thin.{filter-down, up-filter}
 
@@ -97,6 +98,16 @@ up_down-keeps factor other x is =
       second_version = tt;
     } in
     subst (λ (y : Exchange). Keeps (Up factor) (Down other) y) parts.1 kept
+
+-- what the third rule asks
+pub third_rule : ThirdRuleLaw
+third_rule up down =
+    let shared = gcd (size up) (size down) in
+    let is_gcd : IsGcd (size up) (size down) shared = IsGcd-gcd (size up) (size down) in
+    record {
+      prime = λ prime. let one : shared ≡ 1 = same_from_IsGcd (size up) (size down) shared 1 is_gcd prime in rw (eq-eqb shared 1 one) refl;
+      other = λ apart. rw (ne_eqb shared 1 (λ one. apart (subst (λ (g : ℕ). IsGcd (size up) (size down) g) one is_gcd))) refl;
+    }
 
 pub exchange-keeps : (e f : Element) (x : Exchange) → exchange e f ≡ Some x → Keeps e f x
 exchange-keeps (Filter taps Parallel) (Down factor) x is = filter_down-keeps taps factor x is

@@ -1,6 +1,7 @@
 -- The noble identities: which two neighbours of a chain change places, and what they become.
 -- Crochiere and Rabiner, Multirate Digital Signal Processing, 3.1 to 3.3.
-use Rattle.std.specs.Prelude.{ℕ, suc, ◌%◌, ◌==◌, ℤ, pos, int_le, Bool, true, ◌&&◌, ◌||◌, if◌then◌else◌, List, [], ◌∷◌, Option, Some, None}
+use Rattle.std.specs.Prelude.{◌≡◌, ℕ, suc, ◌%◌, ◌==◌, ℤ, pos, int_le, Bool, true, ◌&&◌, ◌||◌, if◌then◌else◌, List, [], ◌∷◌, Option, Some, None}
+use Rattle.std.specs.Int.{IsGcd}
 use Rattle.std.specs.Ordering.{int_eq}
 use Rattle.mr_values.specs.declared.plan.Element.{Element}
 use Rattle.mr_values.specs.declared.plan.Element.TheVariants.{Up, Down, Filter}
@@ -45,3 +46,11 @@ exchange (Filter taps Parallel) (Down factor) = filter_down taps factor
 exchange (Up factor) (Filter taps Parallel) = up_filter factor taps
 exchange (Up up) (Down down) = up_down up down
 exchange _ _ = None
+
+-- The third rule is for an Up and a Down whose greatest common divisor is 1, and for no others.
+pub record IsThirdRule (up down : ℤ) (found : Option Exchange) : Type 0 where
+  pub prime : IsGcd (size up) (size down) 1 → found ≡ Some (record { rule = 3; first = Down down; second = Up up })
+  pub other : (IsGcd (size up) (size down) 1 → ⊥) → found ≡ None
+
+abbrev pub ThirdRuleLaw : Type 0
+ThirdRuleLaw = (up down : ℤ) → IsThirdRule up down (exchange (Up up) (Down down))

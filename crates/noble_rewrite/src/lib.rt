@@ -6,5 +6,12 @@ mod rules;
 mod turn;
 mod turns;
 
+ghost use Rattle.noble_rewrite.specs.Rules.{ThirdRuleLaw};
+
 pub use turn::Applied;
 pub use turns::{Rewritten, rewrite};
+
+/// An Up and the Down behind it change places exactly where their greatest common divisor is 1.
+pub fn law_of_rates()
+    ensures { ThirdRuleLaw }
+{}

@@ -7,6 +7,7 @@ ghost use Rattle.noble_rewrite.specs.Rules.{is_zero_off, is_thin, filter_down, u
 ghost use Rattle.noble_rewrite.specs.Views.{as_exchange};
 
 use mr_values::{Element, Form, Memory, Taps};
+use plan_check::gcd;
 use std::alloc::Global;
 
 /// What two neighbours become, and by which rule.
@@ -131,19 +132,4 @@ fn whole(number: i64) -> u64
     ensures { result ≡ size number }
 {
     if number < 0 { 0 } else { number as u64 }
-}
-
-// The greatest common divisor, by Euclid.
-#[tactic(auto, using(plan_check::proofs::Divisors::gcd_step, plan_check::proofs::Divisors::gcd_end, plan_check::proofs::Divisors::rest_below))]
-fn gcd(a: u64, b: u64) -> u64
-    ensures { result ≡ gcd a b }
-{
-    let mut greater = a;
-    let mut less = b;
-    'divide: while less != 0 {
-        let rest = greater % less;
-        greater = less;
-        less = rest;
-    }
-    greater
 }

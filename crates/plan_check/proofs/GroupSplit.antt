@@ -69,7 +69,7 @@ fir_of es = Fir (leading_up es) (leading_filter (past_up es)) (leading_down (pas
 abbrev pub past_fir : List Element → List Element
 past_fir es = past_down (past_filter (past_up es))
 
-groups-fir : (es : List Element) → BeginsFir es → groups es ≡ fir_of es ∷ groups (past_fir es)
+pub groups-fir : (es : List Element) → BeginsFir es → groups es ≡ fir_of es ∷ groups (past_fir es)
 groups-fir [] h = absurd h
 groups-fir (Up factor ∷ es) h = join_up-groups (size factor) es
 groups-fir (Filter taps form ∷ es) h = join_filter-groups taps form es
@@ -111,7 +111,7 @@ length-past_down (CicUp factor stages delay ∷ es) = omega arith
 length-past_down (Round shift mode ∷ es) = omega arith
 length-past_down (Clip bits ∷ es) = omega arith
 
-some-fir : (es : List Element) → BeginsFir es → 1 ≤ size_of (fir_of es)
+pub some-fir : (es : List Element) → BeginsFir es → 1 ≤ size_of (fir_of es)
 some-fir [] h = absurd h
 some-fir (Up factor ∷ es) h = omega arith
 some-fir (Filter taps form ∷ es) h = omega arith
@@ -120,6 +120,9 @@ some-fir (CicDown factor stages delay ∷ es) h = absurd h
 some-fir (CicUp factor stages delay ∷ es) h = absurd h
 some-fir (Round shift mode ∷ es) h = absurd h
 some-fir (Clip bits ∷ es) h = absurd h
+
+pub length-fir : (es : List Element) → length es ≡ size_of (fir_of es) + length (past_fir es)
+length-fir es = omega (arith, length-past_up es, length-past_filter (past_up es), length-past_down (past_filter (past_up es)))
 
 -- ---- limits
 
@@ -221,7 +224,7 @@ IsSplit-fir es begins h =
     let down = factor-down (past_filter (past_up es)) after_filter in
     record {
       parts = groups-fir es begins;
-      size = omega (arith, length-past_up es, length-past_filter (past_up es), length-past_down (past_filter (past_up es)));
+      size = length-fir es;
       some = some-fir es begins;
       within = record { up_low = up.0; up_high = up.1; filter_taps = filter.0; filter_form = filter.1; down_low = down.0; down_high = down.1 };
       limits = limits-past_down (past_filter (past_up es)) after_filter;

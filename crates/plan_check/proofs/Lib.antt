@@ -1,8 +1,7 @@
 pub mod Divisors
 pub mod Ends
 pub mod GroupSplit
-pub mod LeastBits
-pub mod Logarithm
+pub mod RunLemmas
 pub mod Mirrors
 pub mod Narrow
 pub mod Options

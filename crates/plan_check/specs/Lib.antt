@@ -1,5 +1,6 @@
 pub mod Limits
 pub mod Groups
+pub mod Runs
 pub mod Amounts
 pub mod Forms
 pub mod Costs

@@ -3,10 +3,11 @@ ghost use Rattle.std.specs.Prelude.{◌≡◌, ◌≤◌, ◌<◌, ◌+◌, ◌-
 ghost use Rattle.std.specs.Result.{result_err};
 ghost use Rattle.mr_values.specs.Timing.{period_after, up_factor, ceil_div};
 ghost use Rattle.plan_check.specs.Groups.{group_of, IsGroup};
-ghost use Rattle.plan_check.specs.Costs.{gcd, memory_of, classes_after, spread_after, over, spread_test};
+ghost use Rattle.plan_check.specs.Costs.{memory_of, classes_after, spread_after, over, spread_test};
 ghost use Rattle.plan_check.specs.Views.{as_spread};
 
 use crate::delays::{memory_of, terms_of};
+use crate::euclid::gcd;
 use crate::fault::{CostWhich, PlanFault};
 use crate::flow::period_past;
 use crate::group::PlanGroup;
@@ -123,21 +124,4 @@ fn samples_back(group: &PlanGroup, ticks: u64, period: u64) -> u64
     ensures small { result ≤ 2 ^ 48 }
 {
     ceil_div(memory_of(group) * period, u64::from(group.up()) * ticks)
-}
-
-// The greatest common divisor, by Euclid.
-#[tactic(auto, using(crate::proofs::Divisors::gcd_step, crate::proofs::Divisors::gcd_end, crate::proofs::Divisors::rest_below))]
-fn gcd(a: u64, b: u64) -> u64
-    requires { 1 ≤ a }
-    ensures value { result ≡ gcd a b }
-    ensures some { 1 ≤ result }
-{
-    let mut greater = a;
-    let mut less = b;
-    'divide: while less != 0 {
-        let rest = greater % less;
-        greater = less;
-        less = rest;
-    }
-    greater
 }

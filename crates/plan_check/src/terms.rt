@@ -2,6 +2,7 @@
 ghost use Rattle.std.specs.Prelude.{◌≡◌, ◌≤◌, ◌<◌, ◌+◌, ◌-◌, ◌*◌, ◌/◌, ◌^◌, length};
 ghost use Rattle.mr_values.specs.Sequence.{phase as taps_of_phase};
 ghost use Rattle.mr_values.specs.Timing.{ceil_div, ceil_log, terms, plus_terms, minus_terms, greatest, greatest_below, accumulators};
+ghost use Rattle.mr_values.specs.TimingLaws.{IsLeastLog};
 ghost use Rattle.plan_check.specs.Groups.{IsFactor};
 
 use mr_values::{count_positive_terms, count_terms};
@@ -17,10 +18,11 @@ pub(crate) fn ceil_div(n: u64, d: u64) -> u64
 }
 
 /// The least `k` with `n ≤ 2^k`.
-#[tactic(auto, using(crate::proofs::Logarithm::ceil_log_more, crate::proofs::Logarithm::ceil_log_end, crate::proofs::Logarithm::ceil_log_small))]
+#[tactic(auto, using(mr_values::proofs::Logarithm::ceil_log_more, mr_values::proofs::Logarithm::ceil_log_end, mr_values::proofs::Logarithm::ceil_log_small))]
 pub(crate) fn ceil_log(n: u64) -> u64
     requires { n < 2 ^ 32 }
     ensures value { result ≡ ceil_log n }
+    ensures least { IsLeastLog n result }
     ensures small { result ≤ n }
 {
     let mut level = 0;

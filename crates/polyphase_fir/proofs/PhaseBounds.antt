@@ -18,7 +18,8 @@ use Rattle.fir_pieces.specs.Sums.{IsReady}
 use Rattle.fir_pieces.proofs.AgeLemmas.{length-ages, term_sum-ages, window_narrow}
 use Rattle.fir_pieces.proofs.BoundLemmas.{sum_within}
 use Rattle.fir_pieces.proofs.GainLemmas.{gain_small}
-use Rattle.fir_pieces.proofs.Logarithm.{ceil_log_power, ceil_log_bound}
+use Rattle.mr_values.proofs.Logarithm.{ceil_log_power, ceil_log_bound}
+use Rattle.mr_values.proofs.TimingLemmas.{below_greatest}
 use Rattle.fir_pieces.proofs.ReadingLemmas.{shown_by}
 use Rattle.fir_pieces.proofs.ReadyLemmas.{tree_ready}
 use Rattle.polyphase_fir.specs.Facts.{depth_of, levels_of}
@@ -36,15 +37,8 @@ magnitudes-phase up (suc r) (c ∷ cs) = let rest = magnitudes-phase up r cs in 
 length-placed : (up r : ℕ) (taps : List ℤ) → length (placed_terms up r taps) ≡ terms (phase up r taps)
 length-placed up r taps = length-map (terms_of up r taps) (at_place up) ∙ length-terms_from up r 0 taps
 
-below_greatest : (count : List ℤ → ℕ) (up r below : ℕ) (taps : List ℤ) → r < below → count (phase up r taps) ≤ greatest_below count up below taps
-below_greatest count up r zero taps h = absurd (omega arith)
-below_greatest count up r (suc below) taps h = elim (cases_eq r below) [
-  | inl e ↦ rw e (omega arith)
-  | inr ne ↦ let rest = below_greatest count up r below taps (omega arith) in omega arith
-]
-
 few_terms : (up r : ℕ) (taps : List ℤ) → r < up → length (placed_terms up r taps) ≤ greatest terms up taps
-few_terms up r taps h = let bound = below_greatest terms up r up taps h in let same = length-placed up r taps in omega arith
+few_terms up r taps h = let bound = below_greatest terms up taps r up h in let same = length-placed up r taps in omega arith
 
 deep_terms : (up r : ℕ) (taps : List ℤ) → r < up → length (placed_terms up r taps) ≤ 2 ^ levels_of taps up
 deep_terms up r taps h = let few = few_terms up r taps h in let power = ceil_log_power (greatest terms up taps) in omega arith

@@ -23,7 +23,7 @@ use Rattle.fir_pieces.specs.Sums.{AddsTree, IsReady}
 use Rattle.fir_pieces.proofs.BoundLemmas.{sum_within}
 use Rattle.fir_pieces.proofs.GainLemmas.{gain_small}
 use Rattle.fir_pieces.proofs.ListLemmas.{beside}
-use Rattle.fir_pieces.proofs.Logarithm.{ceil_log_power, ceil_log_bound}
+use Rattle.mr_values.proofs.Logarithm.{ceil_log_power, ceil_log_bound}
 use Rattle.fir_pieces.proofs.ReadingLemmas.{shown_by}
 use Rattle.fir_pieces.proofs.ReadyLemmas.{IsNoWider-least, tree_ready}
 use Rattle.fir_pieces.proofs.WidthsLemmas.{length-tree_sums}

@@ -8,7 +8,8 @@ use Rattle.stage_law.specs.Range.{IsRange}
 use Rattle.stage_law.specs.declared.ranges.Class.{Class}
 use Rattle.stage_law.specs.declared.ranges.Range.{Range}
 use Rattle.impulse_phase.specs.declared.table.Response.{Response as Table}
-use Rattle.impulse_phase.specs.Response.{Response, common, through_filter, HasResponses}
+use Rattle.impulse_phase.specs.Response.{Response, through_filter, HasResponses}
+use Rattle.plan_check.specs.Costs.{gcd}
 use Rattle.impulse_phase.specs.Reading.{rows_of, responses_of}
 use Rattle.impulse_phase.proofs.Ends.{high_end-turned}
 use Rattle.impulse_phase.proofs.Prefix.{common-turns, common-positive, common-positive_right}
@@ -86,7 +87,7 @@ pub covers-all : (table : Table) (width : ℕ) (form : List ℤ) (class : Class)
     → IsRange (IsStream (transform_of table) width) form class range
 covers-all table width form class count last range law below many is covers =
     subst (IsRange (IsStream (transform_of table) width) form class) (sym whole)
-    (range-is (transform_of table) (responses_of table) classes table.step width form (table-law table law) class (finer_classes classes class.modulus) (class.modulus / common classes class.modulus) below
+    (range-is (transform_of table) (responses_of table) classes table.step width form (table-law table law) class (finer_classes classes class.modulus) (class.modulus / gcd classes class.modulus) below
     (common-positive classes class.modulus (rows-some table))
     (common-positive_right classes class.modulus (omega arith))
     (common-turns classes class.modulus))

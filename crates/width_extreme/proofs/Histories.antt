@@ -10,7 +10,8 @@ use Rattle.mr_values.specs.Value.{size}
 use Rattle.mr_values.proofs.Polyphase.{weighted_sum-same}
 use Rattle.stage_law.specs.declared.ranges.Class.{Class}
 use Rattle.impulse_phase.specs.declared.table.Response.{Response as Table}
-use Rattle.impulse_phase.specs.Response.{Response, Responses, added, scaled, behind, combined, through_filter, common, HasResponses}
+use Rattle.impulse_phase.specs.Response.{Response, Responses, added, scaled, behind, combined, through_filter, HasResponses}
+use Rattle.plan_check.specs.Costs.{gcd}
 use Rattle.impulse_phase.specs.Reading.{rows_of, responses_of}
 use Rattle.impulse_phase.proofs.Ends.{tabulate, history, samples-history}
 use Rattle.impulse_phase.proofs.Prefix.{common-turns}
@@ -172,7 +173,7 @@ same-later table form class first rounds law =
     let transform : Sequence → Sequence = λ x. filter form (transform_of table x) in
     let form_law : HasResponses transform (through_filter form (responses_of table)) classes table.step = filter-keeps form (transform_of table) (responses_of table) classes table.step (table-law table law) in
     ap (λ (r : Response). r.weights) (later-at transform (through_filter form (responses_of table)) classes table.step form_law (finer_classes classes class.modulus * class.modulus)
-    (class.modulus / common classes class.modulus) first rounds (common-turns classes class.modulus))
+    (class.modulus / gcd classes class.modulus) first rounds (common-turns classes class.modulus))
 
 -- ---- the samples in their order
 

@@ -22,7 +22,7 @@ use Rattle.plan_check.proofs.GroupSplit.{size_low, size_high, tail_limits}
 use Rattle.plan_laws.proofs.Passes.{passes_of}
 use Rattle.impulse_phase.specs.Gain.{gain_after, gain_after_all}
 use Rattle.impulse_phase.specs.Reading.{IsModest, AreModest}
-use Rattle.impulse_phase.specs.Response.{Cycle, common_to, common, cycle_up, cycle_down, cycle_after, cycle_after_all, full_cycle, IsLinear, AreLinear}
+use Rattle.impulse_phase.specs.Response.{Cycle, cycle_up, cycle_down, cycle_after, cycle_after_all, full_cycle, IsLinear, AreLinear}
 use Rattle.impulse_phase.proofs.Prefix.{common-turns, common-positive_right}
 use Rattle.impulse_phase.proofs.Prefixes.{linear_take}
 use Rattle.impulse_phase.proofs.Reach.{factor-le}
@@ -54,8 +54,8 @@ AreBounded (Clipping bits ∷ gs) p most = Unit {0}
 up_once : (p : Cycle) → cycle_up 1 p ≡ p
 up_once p = let one : p.classes * 1 ≡ p.classes = omega arith in ap (λ (n : ℕ). record { classes = n; step = p.step }) one
 
-common-one : (n : ℕ) → common n 1 ≡ 1
-common-one n = let none : n % 1 ≡ 0 = omega (arith, mod_below n 1 (omega arith)) in refl
+common-one : (n : ℕ) → gcd n 1 ≡ 1
+common-one n = let none : n % 1 ≡ 0 = omega (arith, mod_below n 1 (omega arith)) in ap (λ (rest : ℕ). gcd_to 1 1 rest) none
 
 down_once : (p : Cycle) → cycle_down 1 p ≡ p
 down_once p =
@@ -73,8 +73,8 @@ few-before g p most h =
     let m = down_factor g in
     let whole = common-turns a m in
     let some = common-positive_right a m h.down_low in
-    let first : 1 * a ≤ m / common a m * a = mul-le-mul_right a some in
-    let second : a / common a m * m ≤ 2 ^ 20 * m = mul-le-mul_right m h.classes in
+    let first : 1 * a ≤ m / gcd a m * a = mul-le-mul_right a some in
+    let second : a / gcd a m * m ≤ 2 ^ 20 * m = mul-le-mul_right m h.classes in
     omega (arith, whole, first, second, h.down_high)
 
 -- a group that changes no cycle
@@ -196,17 +196,6 @@ elements-modest (e ∷ es) p most (suc k) linear small h =
 
 -- ---- what the tests say of a group
 
-gcd-is : (f g a b : ℕ) → b ≤ f → b ≤ g → gcd_to f a b ≡ common_to g a b
-gcd-is zero zero a b h k = refl
-gcd-is zero (suc g) a zero h k = refl
-gcd-is zero (suc g) a (suc b) h k = absurd (omega arith)
-gcd-is (suc f) zero a zero h k = refl
-gcd-is (suc f) zero a (suc b) h k = absurd (omega arith)
-gcd-is (suc f) (suc g) a zero h k = refl
-gcd-is (suc f) (suc g) a (suc b) h k =
-    let below = mod_below a (suc b) (omega arith) in
-    gcd-is f g (suc b) (a % suc b) (omega (arith, below)) (omega (arith, below))
-
 cancel : (a b c : ℕ) → a * c ≡ b * c → 0 < c → a ≡ b
 cancel a b c e some = omega (arith, factor-le a b c (omega (arith, e)) some, factor-le b a c (omega (arith, e)) some)
 
@@ -243,10 +232,10 @@ group-next ticks g p s period has_up same some even rate =
     let m = down_factor g in
     let first = ap (λ (n : ℕ). n * up_factor g / gcd (n * up_factor g) m) same in
     record {
-      same = first ∙ ap (λ (n : ℕ). a / n) (gcd-is (suc m) m a m (omega arith) (omega arith));
+      same = first;
       some = omega (arith, some);
       even = cancel ((turn g p).classes * period_after g period) ((turn g p).step * ticks) (up_factor g)
-          (balance (a / common a m) (m / common a m) a m p.classes (up_factor g) period (period_after g period) p.step ticks (common-turns a m) refl rate even) has_up;
+          (balance (a / gcd a m) (m / gcd a m) a m p.classes (up_factor g) period (period_after g period) p.step ticks (common-turns a m) refl rate even) has_up;
     }
 
 over-passes : (element : ℕ) (which : CostWhich) (value most : ℕ) → over element which value most ≡ None → value ≤ most

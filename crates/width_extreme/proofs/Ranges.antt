@@ -9,7 +9,8 @@ use Rattle.mr_values.specs.Sequence.{Sequence, samples, filter}
 use Rattle.mr_values.specs.Timing.{low_end, high_end}
 use Rattle.mr_values.specs.Value.{chain}
 use Rattle.mr_values.proofs.Polyphase.{weighted_sum-same}
-use Rattle.impulse_phase.specs.Response.{Response, Responses, respond, later, through_filter, responses, HasResponses, common, full_cycle, AreLinear}
+use Rattle.impulse_phase.specs.Response.{Response, Responses, respond, later, through_filter, responses, HasResponses, full_cycle, AreLinear}
+use Rattle.plan_check.specs.Costs.{gcd}
 use Rattle.stage_law.specs.Range.{InClass, IsReached, IsRange}
 use Rattle.stage_law.specs.declared.ranges.Class.{Class}
 use Rattle.width_extreme.specs.Prefix.{IsStream, least_sample, greatest_sample, least_to, greatest_to, low_at, high_at, range_of, finer_classes}
@@ -244,7 +245,7 @@ pub prefix-range-is : (es : List Element) (w : ℕ) (form : List ℤ) (class : C
 prefix-range-is es w form class linear below =
     let p = full_cycle es in
     let law = prefix-has es linear in
-    range-is (chain es) (responses es) p.classes p.step w form law class (p.classes / common p.classes class.modulus) (class.modulus / common p.classes class.modulus) below
+    range-is (chain es) (responses es) p.classes p.step w form law class (p.classes / gcd p.classes class.modulus) (class.modulus / gcd p.classes class.modulus) below
     (common-positive p.classes class.modulus law.has_class)
     (common-positive_right p.classes class.modulus (omega arith))
     (common-turns p.classes class.modulus)

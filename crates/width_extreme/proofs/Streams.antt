@@ -7,7 +7,8 @@ use Rattle.mr_values.specs.declared.plan.Element.TheVariants.{Up, Down, Filter, 
 use Rattle.mr_values.specs.Sequence.{Sequence, samples, weighted_sum}
 use Rattle.mr_values.specs.Value.{size, chain}
 use Rattle.mr_values.proofs.Polyphase.{weighted_sum-same}
-use Rattle.impulse_phase.specs.Response.{responses, Cycle, common, cycle_after, cycle_after_all, full_cycle, IsLinear, AreLinear}
+use Rattle.impulse_phase.specs.Response.{responses, Cycle, cycle_after, cycle_after_all, full_cycle, IsLinear, AreLinear}
+use Rattle.plan_check.specs.Costs.{gcd}
 use Rattle.width_extreme.specs.Prefix.{IsStream}
 use Rattle.impulse_phase.specs.Reach.{Extent, extent_after, extent_after_all, extent}
 use Rattle.impulse_phase.proofs.Prefix.{prefix-has, common-turns}
@@ -31,9 +32,9 @@ stream-starts es w v linear s n =
 
 -- ---- the samples of a cycle take as long as its indices
 
-balanced-down : (factor c s d u : ℕ) → c * d ≡ s * u → c / common c factor * (factor * d) ≡ factor / common c factor * s * u
+balanced-down : (factor c s d u : ℕ) → c * d ≡ s * u → c / gcd c factor * (factor * d) ≡ factor / gcd c factor * s * u
 balanced-down factor c s d u h =
-    let g = common c factor in
+    let g = gcd c factor in
     sym (mul_assoc (c / g) factor d) ∙ ap (λ (n : ℕ). n * d) (common-turns c factor) ∙ mul_assoc (factor / g) c d ∙ ap (λ (n : ℕ). factor / g * n) h ∙ sym (mul_assoc (factor / g) s u)
 
 balanced-up : (factor c s d u : ℕ) → c * d ≡ s * u → c * factor * d ≡ s * (u * factor)

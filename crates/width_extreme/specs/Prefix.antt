@@ -7,7 +7,8 @@ use Rattle.mr_values.specs.Timing.{low_end, high_end}
 use Rattle.stage_law.specs.Range.{InClass}
 use Rattle.stage_law.specs.declared.ranges.Class.{Class}
 use Rattle.stage_law.specs.declared.ranges.Range.{Range}
-use Rattle.impulse_phase.specs.Response.{Responses, through_filter, common}
+use Rattle.impulse_phase.specs.Response.{Responses, through_filter}
+use Rattle.plan_check.specs.Costs.{gcd}
 
 -- the streams after a prefix: what it makes of each list of samples that fit w bits
 pub record IsStream (transform : Sequence → Sequence) (w : ℕ) (v : Sequence) : Type 0 where
@@ -47,7 +48,7 @@ range_of w form f class count = record {
 
 -- into how many classes one of the modulus falls, over the least common multiple of both
 abbrev pub finer_classes : ℕ → ℕ → ℕ
-finer_classes classes modulus = classes / common classes modulus
+finer_classes classes modulus = classes / gcd classes modulus
 
 -- samples that fit w bits, and an index of the class, at which the form has this sum
 pub record IsExtreme (transform : Sequence → Sequence) (w : ℕ) (form : List ℤ) (class : Class) (sum : ℤ) (xs : List ℤ) (index : ℕ) : Type 0 where

@@ -5,8 +5,8 @@ ghost use Rattle.stage_law.specs.Weights.{weights_of};
 ghost use Rattle.width_extreme.specs.Furthest.{IsFurther, IsPast};
 
 use crate::prefix::PrefixRanges;
-use impulse_phase::common;
 use mr_values::Memory;
+use plan_check::gcd;
 use stage_law::{Class, WeightedSum};
 use std::alloc::Global;
 
@@ -193,7 +193,7 @@ impl PrefixRanges {
         ensures few { result ≤ 2 ^ 32 }
     {
         let classes = self.table.classes();
-        classes / common(classes, u64::from(class.modulus))
+        classes / gcd(classes, u64::from(class.modulus))
     }
 
     // The end of the sum in a finer class.

@@ -7,8 +7,9 @@ ghost use Rattle.width_extreme.specs.Walk.{transform_of, IsLawful, IsLongest, Ha
 ghost use Rattle.width_extreme.specs.Prefix.{IsStream};
 ghost use Rattle.stage_law.specs.Streams.{AreCausal};
 
-use impulse_phase::{Response, common};
+use impulse_phase::Response;
 use mr_values::{Element, Memory, power};
+use plan_check::gcd;
 use stage_law::{Class, Range, Ranges, WeightedSum};
 use std::alloc::Global;
 
@@ -272,7 +273,7 @@ impl Ranges for PrefixRanges {
         let modulus = u64::from(class.modulus);
         let residue = u64::from(class.residue);
         let mut range = self.ends(residue % classes, sum);
-        for finer in 1..classes / common(classes, modulus) {
+        for finer in 1..classes / gcd(classes, modulus) {
             let index = (residue + finer * modulus) % classes;
             range = wider(range, self.ends(index, sum));
         }

@@ -1,5 +1,5 @@
 use Rattle.std.proofs.Common.{arith}
-use Rattle.fir_pieces.proofs.Logarithm.{ceil_log_more}
+use Rattle.mr_values.proofs.Logarithm.{ceil_log_more}
 use Rattle.fir_pieces.proofs.numbers.ceil_log.Goals as goal
 
 pub halve-preserved : goal.halve-preserved

@@ -2,7 +2,7 @@ use Rattle.std.proofs.Common.{◌∙◌, rules, FitsSigned}
 use Rattle.std.specs.Int.{w128}
 use Rattle.std.proofs.lemmas.Int.{to_z-of_z}
 use Rattle.mr_values.specs.Width.{IsLeastWidth}
-use Rattle.plan_check.proofs.LeastBits.{wide_least}
+use Rattle.mr_values.proofs.LeastBits.{wide_least}
 use Rattle.plan_check.proofs.forms.width_of.Goals as goal
 
 pub returns-clause-value : goal.returns-clause-value

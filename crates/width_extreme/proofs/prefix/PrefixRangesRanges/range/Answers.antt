@@ -1,6 +1,6 @@
 use Rattle.std.proofs.Common.{◌≡◌, ◌∙◌, ◌+◌, ◌-◌, ◌*◌, ◌/◌, ◌%◌, ◌≤◌, ℕ, length, ap, arith}
 use Rattle.stage_law.specs.Weights.{weights_of}
-use Rattle.impulse_phase.specs.Response.{common}
+use Rattle.plan_check.specs.Costs.{gcd}
 use Rattle.impulse_phase.specs.Reading.{rows_of}
 use Rattle.impulse_phase.proofs.Prefix.{common-positive}
 use Rattle.width_extreme.proofs.Finer.{covers-first, covers-more, covers-all}
@@ -37,10 +37,10 @@ pub returns : goal.returns
 returns c =
     let s = c.args.self.now in
     let classes = c.classes-classes.result in
-    let many : classes / c.common.result ≡ length (rows_of s.table) / common (length (rows_of s.table)) c.args.class.modulus =
-    ap (λ (n : ℕ). classes / n) c.common.ensures.value
-    ∙ ap (λ (n : ℕ). classes / common classes n) c.from-modulus.ensures
-    ∙ ap (λ (n : ℕ). n / common n c.args.class.modulus) c.classes-classes.ensures in
-    let one : 1 ≤ classes / c.common.result = omega (arith, many, common-positive (length (rows_of s.table)) c.args.class.modulus (rows-some s.table)) in
-    covers-all s.table s.width (weights_of c.args.sum.now) c.args.class (classes / c.common.result) (c.loop-finer.finer - 1) c.loop-finer.range s.lawful c.requires.class many
+    let many : classes / c.gcd.result ≡ length (rows_of s.table) / gcd (length (rows_of s.table)) c.args.class.modulus =
+    ap (λ (n : ℕ). classes / n) c.gcd.ensures.value
+    ∙ ap (λ (n : ℕ). classes / gcd classes n) c.from-modulus.ensures
+    ∙ ap (λ (n : ℕ). n / gcd n c.args.class.modulus) c.classes-classes.ensures in
+    let one : 1 ≤ classes / c.gcd.result = omega (arith, many, common-positive (length (rows_of s.table)) c.args.class.modulus (rows-some s.table)) in
+    covers-all s.table s.width (weights_of c.args.sum.now) c.args.class (classes / c.gcd.result) (c.loop-finer.finer - 1) c.loop-finer.range s.lawful c.requires.class many
     (omega (arith, one, c.loop-finer-test.false, c.loop-finer.auto.finer, c.loop-finer.auto.finer-end)) c.loop-finer.invariant

@@ -76,3 +76,33 @@ wide_least low high w f g least =
     let some = bits_some low in
     let most : w ≤ wide low high = least.least (wide low high) (omega (arith, some)) c d in
     same_from w (wide low high) most (omega (arith, a, b))
+
+-- ---- what `signed_bits` and `wide` are
+
+-- a number of 128 bits is one of the machine
+pub machine : (v : ℤ) → FitsWidth 128 v → FitsSigned w128 v
+machine v fits = let low = fits.low in let high = fits.high in omega (arith, ints)
+
+pub wide_law : (low high : ℤ) → FitsWidth 128 low → FitsWidth 128 high → IsLeastWidth low high (wide low high)
+wide_law low high p q =
+    let f = machine low p in
+    let g = machine high q in
+    let some = bits_some low in
+    record {
+      positive = omega (arith, some);
+      most = let a = bits_least low 128 f (omega arith) p in let b = bits_least high 128 g (omega arith) q in omega (arith, a, b);
+      holds_low = holds_more (signed_bits low) (wide low high) low (omega arith) (bits_hold low f);
+      holds_high = holds_more (signed_bits high) (wide low high) high (omega arith) (bits_hold high g);
+      least = λ v positive holds other. let a = bits_least low v f positive holds in let b = bits_least high v g positive other in omega (arith, a, b);
+    }
+
+pub bits_law : (v : ℤ) → FitsWidth 128 v → IsLeastWidth v v (signed_bits v)
+bits_law v fits =
+    let f = machine v fits in
+    record {
+      positive = bits_some v;
+      most = bits_least v 128 f (omega arith) fits;
+      holds_low = bits_hold v f;
+      holds_high = bits_hold v f;
+      least = λ w positive holds other. bits_least v w f positive holds;
+    }

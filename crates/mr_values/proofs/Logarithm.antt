@@ -1,8 +1,9 @@
--- Halving, rounded up.
+-- Logarithms, rounded up, by halving.
 use Rattle.std.proofs.Common.{◌≡◌, ◌∙◌, ℕ, zero, suc, ◌+◌, ◌/◌, ◌<◌, ◌≤◌, refl, sym, ap, arith, ◌*◌, ◌^◌, inl, inr}
 use Rattle.std.proofs.lemmas.Bool.{cases_lt}
 use Rattle.std.proofs.Math.Nat.{pow-suc}
 use Rattle.mr_values.specs.Timing.{ceil_log, ceil_log_to}
+use Rattle.mr_values.specs.TimingLaws.{IsLeastLog}
 
 one_step : (fuel n : ℕ) → 1 < n → ceil_log_to (suc fuel) n ≡ suc (ceil_log_to fuel ((n + 1) / 2))
 one_step fuel n h = grind arith
@@ -66,3 +67,6 @@ ceil_log_bound (suc k) n h = elim (cases_lt 1 n) [
       let step = ceil_log_step n more in
       omega arith
 ]
+
+pub ceil_log_least : (n : ℕ) → IsLeastLog n (ceil_log n)
+ceil_log_least n = record { holds = ceil_log_power n; least = λ k h. ceil_log_bound k n h }
