@@ -14,7 +14,7 @@ use Rattle.verilog_tree.specs.Shown.{Cycle, ports_of}
 use Rattle.verilog_tree.specs.View.{design_view}
 use Rattle.verilog_text.specs.Grammar.{limits}
 use Rattle.verilog_text.specs.Shortest.{IsWritable}
-use Rattle.settle_order.specs.Placing.{IsEvaluationOrder}
+use Rattle.wire_levels.specs.Levels.{AreByLevel}
 use Rattle.clock_sim.specs.declared.sim.PortNames.{PortNames}
 use Rattle.clock_sim.specs.declared.shape_table.ShapeTable.{ShapeTable}
 use Rattle.clock_sim.specs.declared.registers.Blocks.{Blocks}
@@ -96,6 +96,6 @@ pub record IsSimulation (m : Module) (ports : PortNames) (table : ShapeTable) (o
   pub blocks : IsTrue (blocks_fit (shapes_of (design_view m)) (length values) (design_view m).blocks)
   pub registers : AreBlocks (shapes_of (design_view m)) (length values) m.blocks.items flat
   pub inputs : ArePorts (design_view m) (length values) ports
-  pub evaluation : IsEvaluationOrder (circuit_of (design_view m)) order
+  pub evaluation : AreByLevel (design_view m) order
   pub names : FitNames (shapes_of (design_view m)) (values_of values)
   pub sizes : length staged ≡ length values

@@ -21,10 +21,10 @@ use crate::step::{Compiled, steps_of};
 use crate::steps::{edge, evaluate, mark_blocks, settle, write};
 use formed_module::FormedModule;
 use mr_values::Memory;
-use settle_order::evaluation_order;
 use std::alloc::Global;
 use std::marker::Model;
 use verilog_tree::{Declarations, Kind, Module};
+use wire_levels::level_order;
 
 /// The numbers of the names of the ports that are set and read.
 #[derive(Clone, Copy, PartialEq, Eq, Debug)]
@@ -112,7 +112,7 @@ fn set_inputs(
     write(values, ports.in_data, in_data);
 }
 
-/// A simulator: the values of all names, and the order in which the assignments are evaluated.
+/// A simulator: the values of all names, and the assignments sorted by their levels, in which order they are evaluated.
 #[derive(Drop)]
 pub struct Sim<'a> {
     design: &'a Module,
@@ -179,7 +179,7 @@ impl<'a> Sim<'a> {
         let count = design.names.len();
         let ports = port_names(design);
         let table = table_of(alloc, design, count)?;
-        let order = evaluation_order(alloc, design, count)?;
+        let order = level_order(alloc, design, count)?;
         let values = initial_values(alloc, design, initial)?;
         let steps = steps_of(alloc, &table, design, values.as_slice())?;
         let blocks = blocks_of(alloc, &table, design, ports, values.as_slice())?;

@@ -6,7 +6,8 @@ ghost use Rattle.verilog_tree.specs.Names.{shapes_of};
 ghost use Rattle.verilog_tree.specs.Circuit.{Driver, IsSettling, given_by, next, put};
 ghost use Rattle.verilog_tree.specs.Cycle.{circuit_of, IsDrivenOnce, given, condition_holds};
 ghost use Rattle.verilog_tree.specs.View.{tree_view, action_view, actions_view, design_view};
-ghost use Rattle.settle_order.specs.Placing.{IsEvaluationOrder, opened_of};
+ghost use Rattle.settle_order.specs.Placing.{opened_of};
+ghost use Rattle.wire_levels.specs.Levels.{AreByLevel};
 ghost use Rattle.clock_sim.specs.Simulated.{table_shapes, values_of, AssignsFit, action_fits, actions_fit, all_given, blocks_fit, Given, Marked};
 ghost use Rattle.clock_sim.specs.Blocks.{AreBlocks};
 ghost use Rattle.clock_sim.specs.Steps.{Compiles};
@@ -77,7 +78,7 @@ pub(crate) fn evaluate(
     write(values, compiled.target, bits);
 }
 
-/// Evaluates each assignment once, in this order.
+/// Evaluates each assignment once, in the order of their levels.
 pub(crate) fn settle(
     table: &ShapeTable,
     design: &Module,
@@ -89,7 +90,7 @@ pub(crate) fn settle(
     requires table { TellsShapes (table_shapes table.now.widths.items table.now.signs.items) (shapes_of (design_view design.now)) }
     requires compiled { Compiles (shapes_of (design_view design.now)) design.now.assigns.items steps.now }
     requires fits { AssignsFit (design_view design.now) (length values.old) }
-    requires order { IsEvaluationOrder (circuit_of (design_view design.now)) order.now }
+    requires order { AreByLevel (design_view design.now) order.now }
     requires names { FitNames (shapes_of (design_view design.now)) (values_of values.old) }
     ensures settled { IsSettling (circuit_of (design_view design.now)) (values_of values.old) (values_of values.new) }
     ensures names { FitNames (shapes_of (design_view design.now)) (values_of values.new) }

@@ -1,7 +1,7 @@
-//! An order in which the assignments of a module can be evaluated.
+//! The assignments of a module placed each after those that drive what it reads, and where none can be placed.
 #![tactic(auto)]
 
 mod depth;
 mod order;
 
-pub use order::{Placed, evaluation_order, is_open, place_all, reads_open};
+pub use order::{Placed, is_open, place_all, reads_open};

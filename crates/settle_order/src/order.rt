@@ -1,9 +1,9 @@
-// An order in which each assignment stands after those that drive what it reads.
+// Placing assignments, each after those that drive what it reads, as far as none depends on itself.
 
 ghost use Rattle.std.specs.Prelude.{◌≡◌, ℕ, ◌+◌, ◌<◌, ◌≤◌, true, false, IfOk, All, length};
-ghost use Rattle.verilog_tree.specs.Cycle.{circuit_of, IsDrivenOnce, IsLoopFree};
+ghost use Rattle.verilog_tree.specs.Cycle.{circuit_of, IsDrivenOnce};
 ghost use Rattle.verilog_tree.specs.View.{tree_view, trees_view, design_view};
-ghost use Rattle.settle_order.specs.Placing.{IsEvaluationOrder, AreNamed, reads_open, any_reads_open, opened_of, count_open, IsPlaced, IsStuck, AreAllOpen};
+ghost use Rattle.settle_order.specs.Placing.{AreNamed, reads_open, any_reads_open, opened_of, count_open, IsPlaced, IsStuck, AreAllOpen};
 
 use crate::depth::place_in_depth;
 use mr_values::Memory;
@@ -110,16 +110,4 @@ pub fn place_all(alloc: Global, design: &Module, count: usize) -> Result<Placed,
         progress = place_ready(design, &mut opened, &mut order)?;
     }
     Ok(Placed { order, opened })
-}
-
-/// An order in which each assignment stands after those that drive what it reads, for a module without a loop.
-pub fn evaluation_order(alloc: Global, design: &Module, count: usize) -> Result<Vec<usize>, Memory>
-    requires driven { IsDrivenOnce (design_view design.now) }
-    requires free { IsLoopFree (design_view design.now) }
-    requires named { AreNamed (design_view design.now) count }
-    ensures order { IfOk result (λ order. IsEvaluationOrder (circuit_of (design_view design.now)) order.items) }
-{
-    let placed = place_all(alloc, design, count)?;
-    let order = placed.order;
-    Ok(order)
 }

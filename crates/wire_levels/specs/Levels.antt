@@ -1,5 +1,5 @@
 -- The levels of signals.
-use Rattle.std.specs.Prelude.{◌≡◌, ℕ, ◌+◌, max, List, map, Some, slice_get, get_or}
+use Rattle.std.specs.Prelude.{◌≡◌, ℕ, ◌+◌, ◌<◌, ◌≤◌, max, List, All, length, map, Some, slice_get, get_or}
 use Rattle.verilog_tree.specs.declared.tree.Signal.{Signal}
 use Rattle.verilog_tree.specs.Tree.{Tree, Trees, Name, Bit, Part, Plain, Based, Cat, Not, Binary, Shift, Choice, none, more, Assignment, Design}
 
@@ -33,3 +33,17 @@ level_in levels = λ n. get_or levels n 0
 -- the levels of the signals, in the order of the declarations
 abbrev pub AreLevelsOf : Design → List ℕ → Type 0
 AreLevelsOf d levels = (level : ℕ → ℕ) × HasLevels d level × (levels ≡ map (λ (s : Signal). level s.name) d.signals)
+
+-- ---- the order of evaluation
+
+-- the places of all assignments, each once, and none before one of a lower level
+pub record IsByLevel (d : Design) (level : ℕ → ℕ) (order : List ℕ) : Type 0 where
+  pub within : All (λ k. k < length d.assigns) order
+  pub once : (i j k : ℕ) → slice_get order i ≡ Some k → slice_get order j ≡ Some k → i ≡ j
+  pub covers : (k : ℕ) (a : Assignment) → slice_get d.assigns k ≡ Some a → (i : ℕ) × (slice_get order i ≡ Some k)
+  pub rises : (i j k m : ℕ) (a b : Assignment) → i ≤ j → slice_get order i ≡ Some k → slice_get order j ≡ Some m
+      → slice_get d.assigns k ≡ Some a → slice_get d.assigns m ≡ Some b → level a.target ≤ level b.target
+
+-- the assignments sorted by the levels of what they drive
+abbrev pub AreByLevel : Design → List ℕ → Type 0
+AreByLevel d order = (level : ℕ → ℕ) × HasLevels d level × IsByLevel d level order

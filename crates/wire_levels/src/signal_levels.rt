@@ -1,7 +1,7 @@
 // How many assignments stand one behind the other before a signal.
 
 ghost use Rattle.std.specs.Prelude.{◌≡◌, ◌<◌, ◌≤◌, ℕ, length, map, IfOk};
-ghost use Rattle.verilog_tree.specs.Cycle.{circuit_of, IsDrivenOnce};
+ghost use Rattle.verilog_tree.specs.Cycle.{circuit_of, IsDrivenOnce, IsLoopFree};
 ghost use Rattle.verilog_tree.specs.Checks.{Passes};
 ghost use Rattle.verilog_tree.specs.View.{tree_view, trees_view, design_view};
 ghost use Rattle.settle_order.specs.Placing.{IsEvaluationOrder, AreNamed};
@@ -9,12 +9,12 @@ ghost use Rattle.wire_levels.specs.Levels.{greatest, greatest_of, level_in, HasL
 
 use loop_search::target_count;
 use mr_values::Memory;
-use settle_order::evaluation_order;
+use settle_order::place_all;
 use std::alloc::Global;
 use verilog_tree::{Expr, Module};
 
 // The level of a name, and 0 past the last.
-fn level_in(levels: &[usize], name: usize) -> usize
+pub(crate) fn level_in(levels: &[usize], name: usize) -> usize
     ensures { result ≡ level_in levels.now name }
 {
     if name < levels.len() { levels[name] } else { 0 }
@@ -71,6 +71,23 @@ fn fill(design: &Module, order: &[usize], levels: &mut [usize])
     }
 }
 
+// The levels by the numbers of names.
+pub(crate) fn name_levels(
+    alloc: Global,
+    design: &Module,
+    count: usize,
+) -> Result<Vec<usize>, Memory>
+    requires driven { IsDrivenOnce (design_view design.now) }
+    requires free { IsLoopFree (design_view design.now) }
+    requires named { AreNamed (design_view design.now) count }
+    ensures { IfOk result (λ levels. HasLevels (design_view design.now) (level_in levels.items)) }
+{
+    let placed = place_all(alloc, design, count)?;
+    let mut levels = Vec::from_elem(alloc, 0usize, count)?;
+    fill(design, &placed.order, &mut levels);
+    Ok(levels)
+}
+
 /// The level of each signal, in the order of the declarations, of a module that passes the checks. It is 0 for what no assignment
 /// drives. For a wire or output it is one more than the greatest level of the names that its expression reads, and 1 where it reads
 /// none. Fails only for want of memory.
@@ -81,9 +98,7 @@ pub fn levels(alloc: Global, design: &Module) -> Result<Vec<usize>, Memory>
     let Some(count) = target_count(design) else {
         return Err(Memory);
     };
-    let order = evaluation_order(alloc, design, count)?;
-    let mut by_name = Vec::from_elem(alloc, 0usize, count)?;
-    fill(design, &order, &mut by_name);
+    let by_name = name_levels(alloc, design, count)?;
     let mut levels = Vec::new(alloc);
     for signal in design.signals.as_slice() {
         levels.push(level_in(&by_name, signal.name))?;

@@ -10,11 +10,11 @@ use Rattle.clock_sim.specs.Sim.{ArePorts}
 use Rattle.clock_sim.proofs.Formed.{assigns_fit, blocks_all_fit, widths_fit}
 use Rattle.clock_sim.proofs.sim.Sim.of_tree.Goals as goal
 
-pub evaluation_order-requires-clause-driven : goal.evaluation_order-requires-clause-driven
-evaluation_order-requires-clause-driven c = passing_driven (design_view c.args.design.now) c.requires.sound.passes
+pub level_order-requires-clause-driven : goal.level_order-requires-clause-driven
+level_order-requires-clause-driven c = passing_driven (design_view c.args.design.now) c.requires.sound.passes
 
-pub evaluation_order-requires-clause-free : goal.evaluation_order-requires-clause-free
-evaluation_order-requires-clause-free c = loop_free (design_view c.args.design.now) c.requires.sound.passes.free
+pub level_order-requires-clause-free : goal.level_order-requires-clause-free
+level_order-requires-clause-free c = loop_free (design_view c.args.design.now) c.requires.sound.passes.free
 
 pub steps_of-requires-clause-fitting : goal.steps_of-requires-clause-fitting
 steps_of-requires-clause-fitting c = record { each = widths_fit (design_view c.args.design.now) c.requires.sound.formed c.requires.sound.passes }
@@ -37,7 +37,7 @@ invariant_of-result c =
       assigns = subst (AssignsFit d) (sym many) (assigns_fit d c.requires.sound.formed c.requires.sound.passes);
       blocks = subst (λ (n : ℕ). IsTrue (blocks_fit (shapes_of d) n d.blocks)) (sym many) (blocks_all_fit d c.requires.sound.formed c.requires.sound.passes);
       inputs = subst (λ (n : ℕ). ArePorts d n c.port_names-ports.result) (sym many) c.port_names-ports.ensures;
-      evaluation = c.in_ok-order.ensures.order;
+      evaluation = c.in_ok-order.ensures;
       names = c.in_ok-values.ensures.names;
       sizes = omega (arith, c.in_ok-staged.ensures.len, c.in_ok-staged.staged.ok, c.len-count.ensures, c.args.design.now.names.ok, many);
     }
