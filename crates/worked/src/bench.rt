@@ -16,7 +16,7 @@
 // accepts NAME NUMBERS  the file must be an accepted plan with this latency, period, bound and shift
 use crate::content::add_content;
 use crate::looks::{first_word, has_line, has_lines, is_accepted, is_same_plan};
-use crate::strikes::Struck;
+use crate::strikes::{Struck, end_of};
 use filter_core::filter_tool;
 use mr_values::{Memory, MemoryHost};
 use std::alloc::Global;
@@ -219,10 +219,7 @@ impl Bench {
         self.end_command()?;
         let words = self.words(line)?;
         let outcome = filter_tool(self.alloc, &words, &mut self.host);
-        let end = match &outcome.fault {
-            Some(fault) => format!(in self.alloc; "{} {fault}", outcome.status)?,
-            None => format!(in self.alloc; "{}", outcome.status)?,
-        };
+        let end = end_of(self.alloc, &outcome)?;
         self.end = Some(end);
         Ok(())
     }

@@ -1,5 +1,5 @@
 // A command on hosts of which one call fails.
-use filter_core::filter_tool;
+use filter_core::{Outcome, filter_tool};
 use mr_values::{Failed, Host, HostCall, Memory, MemoryHost, OutFail};
 use std::alloc::Global;
 
@@ -54,16 +54,11 @@ impl<'a> Struck<'a> {
             calls: Vec::new(alloc),
         };
         let outcome = filter_tool(alloc, self.words, &mut whole);
-        if outcome.status != 0 || whole.calls.is_empty() {
-            return Ok(Some(String::from_str(alloc, "isn't done where no call fails")?));
+        if outcome.status == 0 && !whole.calls.is_empty() {
+            return self.first_difference(alloc, &whole);
         }
-        for number in 0..whole.calls.len() {
-            let found = self.failing(alloc, number, &whole)?;
-            if found.is_some() {
-                return Ok(found);
-            }
-        }
-        Ok(None)
+        let line = String::from_str(alloc, "isn't done where no call fails")?;
+        Ok(Some(line))
     }
 
     // The files as they are before the command.
@@ -80,6 +75,17 @@ impl<'a> Struck<'a> {
         Ok(host)
     }
 
+    // What is not as it should be, by the first call for which something isn't.
+    fn first_difference(&self, alloc: Global, whole: &Recorder) -> Result<Option<String>, Memory> {
+        for number in 0..whole.calls.len() {
+            let found = self.failing(alloc, number, whole)?;
+            if found.is_some() {
+                return Ok(found);
+            }
+        }
+        Ok(None)
+    }
+
     // What is not as it should be where the call of that number fails.
     fn failing(
         &self,
@@ -90,38 +96,73 @@ impl<'a> Struck<'a> {
         let mut host = self.host(alloc)?;
         host.fail_call(number as u64)?;
         let outcome = filter_tool(alloc, self.words, &mut host);
-        let end = match &outcome.fault {
-            Some(fault) => format!(in alloc; "{} {fault}", outcome.status)?,
-            None => format!(in alloc; "{}", outcome.status)?,
-        };
-        let call = whole.calls[number];
-        let wanted = format!(in alloc; "3 HostFault call={call}")?;
-        if end.as_str() != wanted.as_str() {
-            return Ok(Some(format!(in alloc;
-                "ends {end} where call {number} fails, in place of {wanted}"
-            )?));
+        let end = end_of(alloc, &outcome)?;
+        if is_struck(alloc, end.as_str(), whole.calls.as_slice(), number)? {
+            return self.wrong_file(alloc, number, whole, &host);
         }
-        for name in self.names.iter().chain(self.words) {
-            let name = name.as_str();
-            if !stands(
-                self.files.file(name),
-                whole.host.file(name),
-                host.file(name),
-            ) {
-                return Ok(Some(format!(in alloc; "{name} is wrong where call {number} fails")?));
+        wrong_end(alloc, number, end.as_str())
+    }
+
+    // The first file that is not as it should be.
+    fn wrong_file(
+        &self,
+        alloc: Global,
+        number: usize,
+        whole: &Recorder,
+        host: &MemoryHost,
+    ) -> Result<Option<String>, Memory> {
+        for name in self.names {
+            if !self.stands(name.as_str(), whole, host) {
+                return wrong_name(alloc, number, name.as_str());
+            }
+        }
+        for name in self.words {
+            if !self.stands(name.as_str(), whole, host) {
+                return wrong_name(alloc, number, name.as_str());
             }
         }
         Ok(None)
     }
+
+    // Whether a file is as it was before, or a front of what the whole command makes of it.
+    fn stands(&self, name: &str, whole: &Recorder, host: &MemoryHost) -> bool {
+        let before = self.files.file(name);
+        let now = host.file(name);
+        if now == before {
+            return true;
+        }
+        match (whole.host.file(name), now) {
+            (Some(whole), Some(now)) => before != Some(whole) && whole.starts_with(now),
+            _ => false,
+        }
+    }
 }
 
-// Whether a file is as it was before, or a front of what the whole command makes of it.
-fn stands(before: Option<&[u8]>, whole: Option<&[u8]>, now: Option<&[u8]>) -> bool {
-    if now == before {
-        return true;
+/// How a command ended: its status, and its fault where there is one.
+pub fn end_of(alloc: Global, outcome: &Outcome) -> Result<String, Memory> {
+    let end = match &outcome.fault {
+        Some(fault) => format!(in alloc; "{} {fault}", outcome.status)?,
+        None => format!(in alloc; "{}", outcome.status)?,
+    };
+    Ok(end)
+}
+
+// Whether a command ends so where the call of that number fails.
+fn is_struck(alloc: Global, end: &str, calls: &[HostCall], number: usize) -> Result<bool, Memory> {
+    if number >= calls.len() {
+        return Ok(false);
     }
-    match (whole, now) {
-        (Some(whole), Some(now)) => before != Some(whole) && whole.starts_with(now),
-        _ => false,
-    }
+    let call = calls[number];
+    let wanted = format!(in alloc; "3 HostFault call={call}")?;
+    Ok(end == wanted.as_str())
+}
+
+fn wrong_end(alloc: Global, number: usize, end: &str) -> Result<Option<String>, Memory> {
+    let line = format!(in alloc; "ends {end} where call {number} fails")?;
+    Ok(Some(line))
+}
+
+fn wrong_name(alloc: Global, number: usize, name: &str) -> Result<Option<String>, Memory> {
+    let line = format!(in alloc; "{name} is wrong where call {number} fails")?;
+    Ok(Some(line))
 }
