@@ -1,0 +1,2 @@
+pub mod OneStop
+pub mod OneFault
